@@ -1,0 +1,73 @@
+-- What an allowed size is good for, and the checks that come first. Assumes nothing.
+use Prim.Native.Nat.{ℕ, _*_, _/_, _%_, _<_, _≤_}
+use mathlib.Core.Path.{_≡_}
+use mathlib.Core.Bool.{Bool, true, _&&_, and-eq-true-iff}
+use native.Mathlib.Nat.{mul-le-mul, mul-pos}
+use native.Mathlib.Omega.{arith}
+use lib.Dec.{eqb, leb}
+use lib.ListN.{length}
+use borrow.Author.Tests.{eq-eqb, eqb-true, leb-true}
+use Rattle.spec.specs.declared.Size.{Size}
+use Rattle.spec.specs.Basics.{if}
+use Rattle.spec.specs.Answers.{ok}
+use Rattle.spec.specs.Sizes.{side, maxWidth, maxHeight, maxColumns, maxLines, maxBlocks, maxPixels, allowed, pixels, columns, lines, blocks, fault}
+use Rattle.spec.specs.Maps.{settled}
+use Rattle.spec.specs.Boards.{Board, Exact, exact}
+
+record Side (most x : ℕ) : Type 0 where
+  whole : 4 * (x / 4) ≡ x
+  some : 0 < x / 4
+  within : x ≤ most
+
+side-of : (most x : ℕ) → side most x ≡ true → Side most x
+unfolding side
+side-of most x e =
+    let a = and-eq-true-iff (eqb (x % 4) 0 && leb 4 x) (leb x most) .0 e in
+    let b = and-eq-true-iff (eqb (x % 4) 0) (leb 4 x) .0 (a .0) in
+    let f = eqb-true (x % 4) 0 (b .0) in
+    let g = leb-true 4 x (b .1) in
+    record { whole = omega arith; some = omega arith; within = leb-true x most (a .1) }
+
+pub record Allowed (z : Size) : Type 0 where
+  pub width : 4 * columns z ≡ z .width
+  pub height : 4 * lines z ≡ z .height
+  pub wide : 0 < columns z
+  pub narrow : columns z ≤ maxColumns
+  pub low : lines z ≤ maxLines
+  pub some : 0 < blocks z
+  pub few : blocks z ≤ maxBlocks
+  pub small : pixels z ≤ maxPixels
+
+pub allowed-size : (z : Size) → allowed z ≡ true → Allowed z
+allowed-size z e =
+    let both = and-eq-true-iff (side maxWidth (z .width)) (side maxHeight (z .height)) .0 e in
+    let a = side-of maxWidth (z .width) (both .0) in
+    let b = side-of maxHeight (z .height) (both .1) in
+    let w = a .within in
+    let h = b .within in
+    record {
+      width = a .whole;
+      height = b .whole;
+      wide = a .some;
+      narrow = omega arith;
+      low = omega arith;
+      some = mul-pos (a .some) (b .some);
+      few = mul-le-mul {n₂ = maxColumns} {m₂ = maxLines} (omega arith) (omega arith);
+      small = mul-le-mul {n₂ = maxWidth} {m₂ = maxHeight} w h;
+    }
+
+-- no block's number is the mark
+pub blocks-below-mark : (z : Size) → allowed z ≡ true → blocks z < settled
+blocks-below-mark z e = let few = allowed-size z e .few in omega arith
+
+-- the pixels of a picture, by its blocks
+pub area : (z : Size) → allowed z ≡ true → 4 * columns z * (4 * lines z) ≡ pixels z
+area z e = let s = allowed-size z e in rw (s .width, s .height)
+
+pub exact-true : (z : Size) (b : Board) → Exact z b → exact z b ≡ true
+exact-true z b e = rw (eq-eqb (length (b .picture)) (pixels z) (e .picture), eq-eqb (length (b .map)) (blocks z) (e .map))
+
+-- neither 1 nor 2, exactly when the size is allowed and the lengths are right
+pub fault-none : (z : Size) (t : Bool) → allowed z ≡ true → t ≡ true → fault z t ≡ ok
+unfolding fault if
+fault-none z t a e = rw (a, e)

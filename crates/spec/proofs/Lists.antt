@@ -1,0 +1,77 @@
+-- Laws of choices, of lists, and of `from` and `Every`. Assumes nothing.
+use Prim.Native.Nat.{ℕ, zero, suc, _+_, _<_, _≤_}
+use mathlib.Core.Path.{_≡_, refl, sym, ap, _∙_}
+use mathlib.Core.List.{List, [], _∷_, _++_, map}
+use mathlib.Core.Bool.{Bool, true, false}
+use native.Mathlib.Nat.{le-of-suc-le-suc, not-suc-le-zero, add-zero, zero-add}
+use native.Mathlib.Omega.{arith}
+use lib.ListN.{length, getD, replicate}
+use Rattle.spec.specs.declared.Answer.{Answer}
+use Rattle.spec.specs.Answers.{answer, checked}
+use Rattle.spec.specs.Basics.{if, from, Every, none, also}
+
+-- a property of a choice: in each branch its test is known
+pub by-test {ℓ} : {A : Type ℓ} (P : A → Type 0) (b : Bool) {x y : A} → (b ≡ true → P x) → (b ≡ false → P y) → P (if b x y)
+unfolding if
+by-test P true f g = f refl
+by-test P false f g = g refl
+
+-- a property of what is done after 1 and 2 have been looked for
+pub by-checked : {A : Type 0} (P : A → Type 0) (n : ℕ) {refuse : Answer → A} {go : A} → ((a : Answer) → P (refuse a)) → P go → P (checked n refuse go)
+unfolding checked
+by-checked P zero f g = g
+by-checked P (suc n) f g = f (answer (suc n) 0)
+
+module _ {ℓ} {A : Type ℓ} {P : A → Type 0} where
+  pub every-append : {l l′ : List A} → Every P l → Every P l′ → Every P (l ++ l′)
+  every-append none e′ = e′
+  every-append (also h e) e′ = also h (every-append e e′)
+
+  pub every-getD : {l : List A} (i : ℕ) (d : A) → Every P l → P d → P (getD l i d)
+  every-getD i d none h = h
+  every-getD zero d (also h e) h′ = h
+  every-getD (suc i) d (also h e) h′ = every-getD i d e h′
+
+  pub every-map {κ} : {B : Type κ} (f : B → A) {l : List B} → Every (λ b. P (f b)) l → Every P (map f l)
+  every-map f none = none
+  every-map f (also h e) = also h (every-map f e)
+
+  pub every-all : (l : List A) → ((a : A) → P a) → Every P l
+  every-all [] h = none
+  every-all (x ∷ l) h = also (h x) (every-all l h)
+
+  pub every-replicate : (n : ℕ) (a : A) → P a → Every P (replicate n a)
+  every-replicate zero a h = none
+  every-replicate (suc n) a h = also h (every-replicate n a h)
+
+pub every-weaken {ℓ} : {A : Type ℓ} {P Q : A → Type 0} {l : List A} → ((a : A) → P a → Q a) → Every P l → Every Q l
+every-weaken h none = none
+every-weaken h (also {x} p e) = also (h x p) (every-weaken h e)
+
+pub length-from : (a m : ℕ) → length (from a m) ≡ m
+length-from a zero = refl
+length-from a (suc m) = ap suc (length-from (suc a) m)
+
+pub getD-from : (a m i d : ℕ) → i < m → getD (from a m) i d ≡ a + i
+getD-from a zero i d h = absurd (not-suc-le-zero h)
+getD-from a (suc m) zero d h = sym (add-zero a)
+getD-from a (suc m) (suc i) d h = getD-from (suc a) m i d (le-of-suc-le-suc h) ∙ omega arith
+
+pub every-from : (a m n : ℕ) → a + m ≤ n → Every (λ (i : ℕ). i < n) (from a m)
+every-from a zero n h = none
+every-from a (suc m) n h = also {x = a} (omega arith) (every-from (suc a) m n (omega arith))
+
+-- an element of a mapped list, in range: the defaults do not matter
+pub getD-map {ℓ κ} : {A : Type ℓ} {B : Type κ} (f : A → B) (l : List A) (i : ℕ) (d : B) (d′ : A) → i < length l → getD (map f l) i d ≡ f (getD l i d′)
+getD-map f [] i d d′ h = absurd (not-suc-le-zero h)
+getD-map f (x ∷ l) zero d d′ h = refl
+getD-map f (x ∷ l) (suc i) d d′ h = getD-map f l i d d′ (le-of-suc-le-suc h)
+
+pub map-congr {ℓ} : {A : Type ℓ} {B : Type 0} {f g : A → B} {l : List A} → Every (λ a. f a ≡ g a) l → map f l ≡ map g l
+map-congr none = refl
+map-congr (also h e) = let t = map-congr e in λ i. h i ∷ t i
+
+-- an element of a list given by a rule
+pub getD-rule {ℓ} : {A : Type ℓ} (f : ℕ → A) (n p : ℕ) (d : A) → p < n → getD (map f (from 0 n)) p d ≡ f p
+getD-rule f n p d h =
+    getD-map f (from 0 n) p d 0 (rw length-from h) ∙ ap f (getD-from 0 n p 0 h ∙ zero-add p)

@@ -1,0 +1,72 @@
+-- 01, "Numbered outcomes": the name of each number, and its row of the table. Assumes nothing.
+use Prim.Native.Nat.{ℕ, zero, suc}
+use Rattle.spec.specs.declared.Answer.{Answer}
+
+-- accepted
+abbrev pub ok : ℕ
+ok = 0
+
+-- width or height not allowed
+abbrev pub badSize : ℕ
+badSize = 1
+
+-- a lent picture or map is not of the exact length
+abbrev pub badLength : ℕ
+badLength = 2
+
+-- chunk under 4 bytes
+abbrev pub chunkShort : ℕ
+chunkShort = 3
+
+-- stated length differs from the bytes given
+abbrev pub lengthDiffers : ℕ
+lengthDiffers = 4
+
+-- bytes end before an opcode, blocks remain
+abbrev pub blocksRemain : ℕ
+blocksRemain = 5
+
+-- bytes end inside an opcode
+abbrev pub opcodeCut : ℕ
+opcodeCut = 6
+
+-- opcode F
+abbrev pub opcodeUnknown : ℕ
+opcodeUnknown = 7
+
+-- copy with no such block before: 2, 3 at block 0; 4, 5 at block 0 or 1
+abbrev pub noneBefore : ℕ
+noneBefore = 8
+
+-- opcode runs past the last block
+abbrev pub pastLastBlock : ℕ
+pastLastBlock = 9
+
+-- entry not filled in this chunk
+abbrev pub entryEmpty : ℕ
+entryEmpty = 10
+
+-- bytes follow the last block
+abbrev pub bytesFollow : ℕ
+bytesFollow = 11
+
+-- feed number badly formed
+abbrev pub badVarint : ℕ
+badVarint = 12
+
+-- feed ends inside a number or a chunk
+abbrev pub feedCut : ℕ
+feedCut = 13
+
+-- output too short
+abbrev pub outputShort : ℕ
+outputShort = 14
+
+-- a number and a place
+abbrev pub answer : ℕ → ℕ → Answer
+answer number place = record { number = number; place = place }
+
+-- 1 and 2 come before anything else, at place 0: where one of them is given, that is the answer, and nothing else is looked at
+unfoldable pub checked : {A : Type 0} → ℕ → (Answer → A) → A → A
+checked zero refuse go = go
+checked (suc e) refuse go = refuse (answer (suc e) 0)

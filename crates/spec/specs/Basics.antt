@@ -1,0 +1,32 @@
+-- The few general notions that the definitions are written in. Assumes nothing.
+use Prim.Native.Nat.{ℕ, zero, suc}
+use mathlib.Core.List.{List, [], _∷_}
+use mathlib.Core.Bool.{Bool, true, false, _&&_}
+use lib.Dec.{eqb}
+use lib.ListN.{take, drop}
+
+-- a choice by a test. Shut, so that laws about it are found by unification (`by-test` of proofs/Lists)
+unfoldable pub if {ℓ} : {A : Type ℓ} → Bool → A → A → A
+if true x y = x
+if false x y = y
+
+-- the numbers a, a + 1, .., m of them
+abbrev pub from : ℕ → ℕ → List ℕ
+from a zero = []
+from a (suc m) = a ∷ from (suc a) m
+
+-- n elements of a list from a place on
+abbrev pub part : List ℕ → ℕ → ℕ → List ℕ
+part s at n = take n (drop at s)
+
+-- whether two lists are the same
+abbrev pub same : List ℕ → List ℕ → Bool
+same [] [] = true
+same [] (y ∷ ys) = false
+same (x ∷ xs) [] = false
+same (x ∷ xs) (y ∷ ys) = eqb x y && same xs ys
+
+-- every element has the property
+pub data Every {ℓ} {A : Type ℓ} (P : A → Type 0) : List A → Type ℓ where
+  none : Every P []
+  also : {x : A} {xs : List A} → P x → Every P xs → Every P (x ∷ xs)

@@ -1,0 +1,315 @@
+-- 01, "Proved examples": one table, one test of a row, one statement. Below 01's fifteen and its listing stand rows that pin what
+-- those leave free. Assumes nothing.
+use Prim.Native.Nat.{ℕ, zero, suc, _+_, _-_, _*_, _/_, _%_}
+use mathlib.Core.Path.{_≡_, refl}
+use mathlib.Core.List.{List, [], _∷_, _++_, map}
+use mathlib.Core.Bool.{Bool, true, false, _&&_}
+use lib.Dec.{eqb}
+use lib.ListN.{length, getD, replicate}
+use Rattle.spec.specs.declared.Answer.{Answer}
+use Rattle.spec.specs.declared.Size.{Size}
+use Rattle.spec.specs.Basics.{if, from, same}
+use Rattle.spec.specs.Answers.{answer, checked}
+use Rattle.spec.specs.Sizes.{blocks, allowed}
+use Rattle.spec.specs.Sizes as Sizes
+use Rattle.spec.specs.Pictures.{Origin, given, held}
+use Rattle.spec.specs.Pictures as Pictures
+use Rattle.spec.specs.Maps.{settled, fresh, unsettled, remap, freshMap, countMap}
+use Rattle.spec.specs.Flags.{upper24, lower24}
+use Rattle.spec.specs.Flags as Flags
+use Rattle.spec.specs.Chunks.{Outcome, refused, accepted, decode}
+use Rattle.spec.specs.Chunks as Chunks
+use Rattle.spec.specs.Boards.{Left, board, read, inTurn}
+use Rattle.spec.specs.Writing.{Wrote, opcodes, chunkFor, write}
+use Rattle.spec.specs.Writing as Writing
+use Rattle.spec.specs.Feeds.{Varint, bad, value, varintAt, Reply, reply, walk}
+use Rattle.spec.specs.Feeds as Feeds
+use Rattle.spec.specs.Calls.{Call, reading, walking, call, run}
+
+pub data Row : Type 0 where
+  -- six flag bytes: the two 24-bit numbers
+  octet : List ℕ → ℕ → ℕ → Row
+  -- width, height, a starting picture with a fresh map, calls: what each says, the picture, the map and the count at the end
+  sequence : ℕ → ℕ → List ℕ → List Call → List Reply → List ℕ → List ℕ → ℕ → Row
+  -- width, height: what read, write, fresh map and count answer, all lent buffers empty. An allowed size gets 2
+  sizes : ℕ → ℕ → ℕ → Row
+  -- width, height, the lengths of the lent picture and map: what reading an empty chunk answers
+  readLengths : ℕ → ℕ → ℕ → ℕ → ℕ → Row
+  -- width, height, the lengths of the old and the new picture: what writing to an empty output answers
+  writeLengths : ℕ → ℕ → ℕ → ℕ → ℕ → Row
+  -- width, height, a map: what fresh map and count answer, the map that is left, and the count
+  maps : ℕ → ℕ → List ℕ → ℕ → List ℕ → ℕ → Row
+  -- width, height, old picture, new picture: the chunk; written where it just fits, with a byte behind it, and with one byte too few
+  writes : ℕ → ℕ → List ℕ → List ℕ → List ℕ → Row
+  -- origins: the opcodes of the writer's chunk
+  encodes : List Origin → List ℕ → Row
+  -- bytes that start with a number: its value and the place after it; or 12 or 13
+  varint : List ℕ → ℕ → ℕ → Row
+  noVarint : List ℕ → ℕ → Row
+  -- blocks, an accepted chunk: the pixels that it gives the last of them
+  lastGiven : ℕ → List ℕ → List ℕ → Row
+
+abbrev pub size : ℕ → ℕ → Size
+size w h = record { width = w; height = h }
+
+abbrev pub sameAnswer : Answer → Answer → Bool
+sameAnswer x y = eqb (x .number) (y .number) && eqb (x .place) (y .place)
+
+abbrev pub sameAnswers : List Answer → List Answer → Bool
+sameAnswers [] [] = true
+sameAnswers [] (y ∷ ys) = false
+sameAnswers (x ∷ xs) [] = false
+sameAnswers (x ∷ xs) (y ∷ ys) = sameAnswer x y && sameAnswers xs ys
+
+abbrev pub sameReplies : List Reply → List Reply → Bool
+sameReplies [] [] = true
+sameReplies [] (y ∷ ys) = false
+sameReplies (x ∷ xs) [] = false
+sameReplies (x ∷ xs) (y ∷ ys) = sameAnswers (x .inside) (y .inside) && sameAnswer (x .answer) (y .answer) && sameReplies xs ys
+
+abbrev pub isRan : Left (List Reply) → List Reply → List ℕ → List ℕ → ℕ → Bool
+isRan r replies pic m n =
+    sameReplies (r .said) replies && same (r .board .picture) pic && same (r .board .map) m && eqb (unsettled (r .board .map)) n
+
+abbrev pub isWrote : Wrote → Answer → List ℕ → Bool
+isWrote w a out = sameAnswer (w .answer) a && same (w .output) out
+
+abbrev pub isVarint : Varint → ℕ → ℕ → Bool
+isVarint (bad e) v p = false
+isVarint (value x q) v p = eqb x v && eqb q p
+
+abbrev pub isBad : Varint → ℕ → Bool
+isBad (bad e) x = eqb e x
+isBad (value x q) e = false
+
+abbrev pub isGiven : Origin → List ℕ → Bool
+isGiven (given px) qx = same px qx
+isGiven (held k) qx = false
+
+abbrev pub lastIs : Outcome → ℕ → List ℕ → Bool
+lastIs (refused a) n px = false
+lastIs (accepted os) n px = eqb (length os) n && isGiven (getD os (n - 1) (held 0)) px
+
+-- n pixels of one colour
+abbrev pub of : ℕ → ℕ → List ℕ
+of n c = replicate n c
+
+unfoldable pub holds : Row → Bool
+unfolding if checked Sizes.side Sizes.fault Pictures.place Pictures.blockOf Pictures.pixelOf Pictures.shown Pictures.paint
+    Flags.digits Flags.upper24 Flags.lower24 Flags.flags Flags.octetBytes Flags.flagBytes
+    Chunks.put Chunks.missing Chunks.body Chunks.opcode Chunks.blocksBy Chunks.extend Chunks.stored Chunks.step Chunks.finish Chunks.loop Chunks.decode
+    remap freshMap countMap read inTurn
+    Writing.insert Writing.colours Writing.entries Writing.entryOf Writing.tabled Writing.single Writing.counting Writing.plain
+    Writing.opcodeFor Writing.alike Writing.opcodes Writing.encode Writing.difference Writing.differences Writing.emit Writing.write
+    Feeds.groups Feeds.varintAt Feeds.chunksFrom Feeds.feedOf Feeds.walk call
+holds (octet bs x y) = eqb (upper24 bs) x && eqb (lower24 bs) y
+holds (sequence w h start calls replies pic m n) =
+    isRan (run (size w h) calls (board start (fresh (blocks (size w h))))) replies pic m n
+holds (sizes w h e) =
+    let z = size w h in
+    let a = answer e 0 in
+    sameAnswer (read z [] (board [] []) .said) a
+    && isWrote (write z [] [] []) a []
+    && sameAnswer (freshMap z [] .answer) a && same (freshMap z [] .map) []
+    && sameAnswer (countMap z [] .answer) a && eqb (countMap z [] .unsettled) 0
+holds (readLengths w h pixels entries e) = sameAnswer (read (size w h) [] (board (of pixels 0) (of entries 0)) .said) (answer e 0)
+holds (writeLengths w h old new e) = isWrote (write (size w h) (of old 0) (of new 0) []) (answer e 0) []
+holds (maps w h m e after n) =
+    let z = size w h in
+    let a = answer e 0 in
+    sameAnswer (freshMap z m .answer) a && same (freshMap z m .map) after
+    && sameAnswer (countMap z m .answer) a && eqb (countMap z m .unsettled) n
+holds (encodes os s) = same (opcodes 0 os) s
+holds (writes w h old new s) =
+    let z = size w h in
+    let n = length s in
+    same (chunkFor z old new) s
+    && isWrote (write z old new (of n 9)) (answer 0 n) s
+    && isWrote (write z old new (of (n + 1) 9)) (answer 0 n) (s ++ 9 ∷ [])
+    && isWrote (write z old new (of (n - 1) 9)) (answer 14 0) (of (n - 1) 9)
+holds (varint s v p) = isVarint (varintAt s 0) v p
+holds (noVarint s e) = isBad (varintAt s 0) e
+holds (lastGiven n s px) = lastIs (decode n s) n px
+
+abbrev pub hold : List Row → Bool
+hold [] = true
+hold (x ∷ xs) = holds x && hold xs
+
+-- a chunk read over a starting picture and a fresh map
+abbrev pub reads : ℕ → ℕ → List ℕ → List ℕ → ℕ → ℕ → List ℕ → List ℕ → Row
+reads w h start s n p pic m = sequence w h start (reading s ∷ []) (reply [] (answer n p) ∷ []) pic m (unsettled m)
+
+-- a chunk that is refused over a picture of nines and a fresh map: both stay
+abbrev pub refuses : ℕ → ℕ → List ℕ → ℕ → ℕ → Row
+refuses w h s n p = reads w h (of (w * h) 9) s n p (of (w * h) 9) (fresh (blocks (size w h)))
+
+-- four pixels of each colour
+abbrev pub across : List ℕ → List ℕ
+across [] = []
+across (c ∷ cs) = of 4 c ++ across cs
+
+-- the picture of one line of blocks, each of one colour
+abbrev pub line : List ℕ → List ℕ
+line cs = let row = across cs in row ++ row ++ row ++ row
+
+-- a chunk of at most 255 bytes around its opcodes
+abbrev pub chunk : List ℕ → List ℕ
+chunk body = 0xE1 ∷ 0x00 ∷ 0x00 ∷ (4 + length body) ∷ body
+
+-- opcodes that store n pairs and paint a block each: those of j, j + 1, .., where the pair of j is j's two digits, lower first
+abbrev pub pairs : ℕ → ℕ → List ℕ
+pairs j zero = []
+pairs j (suc n) = 0x80 ∷ j % 256 ∷ j / 256 ∷ 0x00 ∷ 0x00 ∷ pairs (suc j) n
+
+-- a block of n colours: 0, 1, .., and the greatest again
+abbrev pub colour : ℕ → List ℕ
+colour n = from 0 n ++ of (16 - n) (n - 1)
+
+abbrev pub octetBlock : List ℕ
+octetBlock = 0 ∷ 0 ∷ 2 ∷ 2 ∷ 2 ∷ 1 ∷ 2 ∷ 6 ∷ 4 ∷ 2 ∷ 3 ∷ 2 ∷ 1 ∷ 5 ∷ 7 ∷ 3 ∷ []
+
+unfoldable pub fifteen : List Row
+fifteen =
+    -- 1: half-bytes 01 23 45 67 89 AB give 012456 and 89A37B
+    octet (0x01 ∷ 0x23 ∷ 0x45 ∷ 0x67 ∷ 0x89 ∷ 0xAB ∷ []) 0x012456 0x89A37B
+    -- 2: 8x4, all 32 pixels are 5
+    ∷ reads 8 4 (of 32 0) (0xE1 ∷ 0x00 ∷ 0x00 ∷ 0x06 ∷ 0x61 ∷ 0x05 ∷ []) 0 6 (of 32 5) (of 2 settled)
+    -- 3 to 5: 8 at 4, 9 at 4, 10 at 4
+    ∷ refuses 4 4 (0xE1 ∷ 0x00 ∷ 0x00 ∷ 0x05 ∷ 0x20 ∷ []) 8 4
+    ∷ refuses 4 4 (0xE1 ∷ 0x00 ∷ 0x00 ∷ 0x05 ∷ 0x01 ∷ []) 9 4
+    ∷ refuses 4 4 (0xE1 ∷ 0x00 ∷ 0x00 ∷ 0x06 ∷ 0x90 ∷ 0x00 ∷ []) 10 4
+    -- 6: lower left 7, the rest 3
+    ∷ reads 4 4 (of 16 0) (0xE1 ∷ 0x00 ∷ 0x00 ∷ 0x09 ∷ 0x80 ∷ 0x03 ∷ 0x07 ∷ 0x00 ∷ 0x08 ∷ []) 0 9 (of 12 3 ++ 7 ∷ of 3 3) (of 1 settled)
+    -- 7 to 10: 11 at 5, 5 at 4, 6 at 4, 7 at 4
+    ∷ refuses 4 4 (0xE1 ∷ 0x00 ∷ 0x00 ∷ 0x06 ∷ 0x00 ∷ 0xAA ∷ []) 11 5
+    ∷ refuses 4 4 (0xE1 ∷ 0x00 ∷ 0x00 ∷ 0x04 ∷ []) 5 4
+    ∷ refuses 4 4 (0xE1 ∷ 0x00 ∷ 0x00 ∷ 0x05 ∷ 0x10 ∷ []) 6 4
+    ∷ refuses 4 4 (0xE1 ∷ 0x00 ∷ 0x00 ∷ 0x05 ∷ 0xF0 ∷ []) 7 4
+    -- 11: 8x4, on a fresh map: map 0, 0
+    ∷ reads 8 4 (of 32 0) (0xE1 ∷ 0x00 ∷ 0x00 ∷ 0x06 ∷ 0x00 ∷ 0x20 ∷ []) 0 6 (of 32 0) (0 ∷ 0 ∷ [])
+    -- 12: an empty chunk gets 3, a stated length of 7 gets 4; 320x200 is allowed; 324x4, 4x204, 6x4 and 0x4 get 1
+    ∷ refuses 4 4 [] 3 0
+    ∷ refuses 4 4 (0xE1 ∷ 0x00 ∷ 0x00 ∷ 0x07 ∷ 0x60 ∷ 0x05 ∷ []) 4 0
+    ∷ sizes 320 200 2
+    ∷ sizes 324 4 1
+    ∷ sizes 4 204 1
+    ∷ sizes 6 4 1
+    ∷ sizes 0 4 1
+    -- 13: zeros to fives; equal pictures
+    ∷ writes 4 4 (of 16 0) (of 16 5) (0xE1 ∷ 0x00 ∷ 0x00 ∷ 0x06 ∷ 0x60 ∷ 0x05 ∷ [])
+    ∷ writes 4 4 (of 16 5) (of 16 5) (0xE1 ∷ 0x00 ∷ 0x00 ∷ 0x05 ∷ 0x00 ∷ [])
+    -- 14: 300 is AC 02; 80 00 gets 12
+    ∷ varint (0xAC ∷ 0x02 ∷ []) 300 2
+    ∷ noVarint (0x80 ∷ 0x00 ∷ []) 12
+    -- 15: 16x4, blocks of 1, 2, 1, 2
+    ∷ reads 16 4 (of 64 0) (0xE1 ∷ 0x00 ∷ 0x00 ∷ 0x09 ∷ 0x60 ∷ 0x01 ∷ 0x60 ∷ 0x02 ∷ 0x40 ∷ []) 0 9 (line (1 ∷ 2 ∷ 1 ∷ 2 ∷ [])) (of 4 settled)
+    -- the listing's feed, from an all-zero picture
+    ∷ sequence 8 4 (of 32 0)
+    (walking (0x02 ∷ 0x01 ∷ 0x06 ∷ 0xE1 ∷ 0x00 ∷ 0x00 ∷ 0x06 ∷ 0x00 ∷ 0x20 ∷ 0x04 ∷ 0xE1 ∷ 0x00 ∷ 0x00 ∷ 0x04 ∷ 0x06 ∷ 0xE1 ∷ 0x00 ∷ 0x00 ∷ 0x06 ∷ 0x61 ∷ 0x05 ∷ []) ∷ [])
+    (reply (answer 0 6 ∷ answer 5 4 ∷ answer 0 6 ∷ []) (answer 0 21) ∷ []) (of 32 5) (of 2 settled) 0
+    ∷ []
+
+unfoldable pub further : List Row
+further =
+    -- a quad block: the low bits of the first flag byte are 3, so the upper right pixel has the fourth colour (003)
+    reads 4 4 (of 16 0) (chunk (0xA0 ∷ 0x10 ∷ 0x11 ∷ 0x12 ∷ 0x13 ∷ 0x03 ∷ 0x00 ∷ 0x00 ∷ 0x00 ∷ [])) 0 13 (of 3 0x10 ++ 0x13 ∷ of 12 0x10) (of 1 settled)
+    -- an octet block: 012456 and 89A37B in octal are 00222126 and 42321573
+    ∷ reads 4 4 (of 16 9) (chunk (0xC0 ∷ 0x00 ∷ 0x01 ∷ 0x02 ∷ 0x03 ∷ 0x04 ∷ 0x05 ∷ 0x06 ∷ 0x07 ∷ 0x01 ∷ 0x23 ∷ 0x45 ∷ 0x67 ∷ 0x89 ∷ 0xAB ∷ [])) 0 19 octetBlock (of 1 settled)
+    -- a whole block, row by row; byte 0 may be anything
+    ∷ reads 8 4 (of 32 9) (0x00 ∷ 0x00 ∷ 0x00 ∷ 0x16 ∷ 0x00 ∷ 0xE0 ∷ from 0 16) 0 22
+    (of 4 9 ++ from 0 4 ++ of 4 9 ++ from 4 4 ++ of 4 9 ++ from 8 4 ++ of 4 9 ++ from 12 4) (0 ∷ settled ∷ [])
+    -- several blocks to one opcode with flags, and to one whole; entries are kept by a later skip
+    ∷ reads 8 4 (of 32 0) (chunk (0x81 ∷ 0x01 ∷ 0x02 ∷ 0x00 ∷ 0x00 ∷ 0xFF ∷ 0xFF ∷ [])) 0 11 (line (1 ∷ 2 ∷ [])) (of 2 settled)
+    ∷ reads 8 4 (of 32 0) (chunk (0xE1 ∷ of 16 1 ++ of 16 2)) 0 37 (line (1 ∷ 2 ∷ [])) (of 2 settled)
+    ∷ sequence 8 4 (line (1 ∷ 2 ∷ [])) (reading (chunk (0x60 ∷ 0x05 ∷ 0x00 ∷ [])) ∷ reading (chunk (0x01 ∷ [])) ∷ [])
+    (reply [] (answer 0 7) ∷ reply [] (answer 0 5) ∷ []) (line (5 ∷ 2 ∷ [])) (settled ∷ 1 ∷ []) 1
+    -- copies at a line's first block, and in pairs at its first and at its second: the block before stands across the line's end
+    ∷ reads 8 8 (of 64 0) (chunk (0x60 ∷ 0x01 ∷ 0x60 ∷ 0x02 ∷ 0x21 ∷ [])) 0 9 (line (1 ∷ 2 ∷ []) ++ line (2 ∷ 2 ∷ [])) (of 4 settled)
+    ∷ reads 8 8 (of 64 0) (chunk (0x60 ∷ 0x01 ∷ 0x60 ∷ 0x02 ∷ 0x40 ∷ [])) 0 9 (line (1 ∷ 2 ∷ []) ++ line (1 ∷ 2 ∷ [])) (of 4 settled)
+    ∷ reads 12 8 (of 96 0) (chunk (0x60 ∷ 0x01 ∷ 0x60 ∷ 0x02 ∷ 0x60 ∷ 0x03 ∷ 0x60 ∷ 0x04 ∷ 0x40 ∷ [])) 0 13 (line (1 ∷ 2 ∷ 3 ∷ []) ++ line (4 ∷ 3 ∷ 4 ∷ [])) (of 6 settled)
+    -- 1, 3, 5 and 7 have a count byte, and their lower half-byte plays no part; 5 counts pairs
+    ∷ reads 16 4 (of 64 9) (chunk (0x1F ∷ 0x00 ∷ 0x7A ∷ 0x02 ∷ 0x05 ∷ [])) 0 9 (line (9 ∷ 5 ∷ 5 ∷ 5 ∷ [])) (0 ∷ of 3 settled)
+    ∷ reads 16 4 (of 64 9) (chunk (0x60 ∷ 0x05 ∷ 0x37 ∷ 0x02 ∷ [])) 0 8 (line (of 4 5)) (of 4 settled)
+    ∷ reads 24 4 (of 96 9) (chunk (0x60 ∷ 0x05 ∷ 0x60 ∷ 0x06 ∷ 0x5C ∷ 0x01 ∷ [])) 0 10 (line (5 ∷ 6 ∷ 5 ∷ 6 ∷ 5 ∷ 6 ∷ [])) (of 6 settled)
+    ∷ refuses 16 4 (chunk (0x60 ∷ 0x05 ∷ 0x30 ∷ [])) 6 6
+    ∷ refuses 20 4 (chunk (0x60 ∷ 0x05 ∷ 0x60 ∷ 0x06 ∷ 0x50 ∷ 0x01 ∷ [])) 9 8
+    -- 9, B and D name entry 1 of 2; entry 2 is not filled, nor is one that only another table has
+    ∷ reads 12 4 (of 48 0) (chunk (0x80 ∷ 0x01 ∷ 0x02 ∷ 0x00 ∷ 0x00 ∷ 0x80 ∷ 0x03 ∷ 0x04 ∷ 0xFF ∷ 0xFF ∷ 0x90 ∷ 0x01 ∷ 0x00 ∷ 0x00 ∷ [])) 0 18 (line (1 ∷ 4 ∷ 3 ∷ [])) (of 3 settled)
+    ∷ reads 12 4 (of 48 0)
+    (chunk (0xA0 ∷ 0x01 ∷ 0x02 ∷ 0x03 ∷ 0x04 ∷ 0x00 ∷ 0x00 ∷ 0x00 ∷ 0x00 ∷ 0xA0 ∷ 0x05 ∷ 0x06 ∷ 0x07 ∷ 0x08 ∷ 0xFF ∷ 0xFF ∷ 0xFF ∷ 0xFF ∷ 0xB0 ∷ 0x01 ∷ 0x55 ∷ 0x55 ∷ 0x55 ∷ 0x55 ∷ []))
+    0 28 (line (1 ∷ 8 ∷ 6 ∷ [])) (of 3 settled)
+    ∷ reads 12 4 (of 48 0)
+    (chunk (0xC0 ∷ from 1 8 ++ of 6 0x00 ++ 0xC0 ∷ from 9 8 ++ of 6 0xFF ++ 0xD0 ∷ 0x01 ∷ of 6 0x00))
+    0 42 (line (1 ∷ 16 ∷ 9 ∷ [])) (of 3 settled)
+    ∷ refuses 12 4 (chunk (0x80 ∷ 0x01 ∷ 0x02 ∷ 0x00 ∷ 0x00 ∷ 0x80 ∷ 0x03 ∷ 0x04 ∷ 0xFF ∷ 0xFF ∷ 0x90 ∷ 0x02 ∷ 0x00 ∷ 0x00 ∷ [])) 10 14
+    ∷ refuses 12 4 (chunk (0x80 ∷ 0x01 ∷ 0x02 ∷ 0x00 ∷ 0x00 ∷ 0xB0 ∷ 0x00 ∷ 0xFF ∷ 0xFF ∷ [])) 10 9
+    -- the order within an opcode: the count byte (6) before 8, 8 before 9, 9 before the colours (6), the entry number (6) before 10, flags (6)
+    ∷ refuses 4 4 (chunk (0x30 ∷ [])) 6 4
+    ∷ refuses 4 4 (chunk (0x30 ∷ 0xFF ∷ [])) 8 4
+    ∷ refuses 8 4 (chunk (0x60 ∷ 0x05 ∷ 0x40 ∷ [])) 8 6
+    ∷ refuses 4 4 (chunk (0x81 ∷ [])) 9 4
+    ∷ refuses 4 4 (chunk (0x90 ∷ [])) 6 4
+    ∷ refuses 4 4 (chunk (0x80 ∷ 0x01 ∷ 0x02 ∷ 0xFF ∷ [])) 6 4
+    -- a chunk of three bytes; the stated length's highest byte; lengths: where size and lengths are right, an empty chunk gets 3 and an empty output 14
+    ∷ refuses 4 4 (0xE1 ∷ 0x00 ∷ 0x03 ∷ []) 3 0
+    ∷ refuses 4 4 (0xE1 ∷ 0x01 ∷ 0x00 ∷ 0x05 ∷ 0x00 ∷ []) 4 0
+    ∷ readLengths 8 4 32 2 3
+    ∷ readLengths 8 4 31 2 2
+    ∷ readLengths 8 4 32 3 2
+    ∷ writeLengths 8 4 32 32 14
+    ∷ writeLengths 8 4 31 32 2
+    ∷ writeLengths 8 4 32 33 2
+    -- a fresh map, and a count, over any numbers; refused
+    ∷ maps 8 4 (7 ∷ settled ∷ []) 0 (0 ∷ 1 ∷ []) 1
+    ∷ maps 8 4 (7 ∷ settled ∷ 7 ∷ []) 2 (7 ∷ settled ∷ 7 ∷ []) 0
+    -- a pair table stored 257 times: entry 0 holds the last pair, and entry 1 the second
+    ∷ lastGiven 258 (0xE1 ∷ 0x00 ∷ 0x05 ∷ 0x0D ∷ pairs 0 257 ++ 0x90 ∷ 0x00 ∷ 0xFF ∷ 0xFF ∷ []) (of 16 1)
+    ∷ lastGiven 258 (0xE1 ∷ 0x00 ∷ 0x05 ∷ 0x0D ∷ pairs 0 257 ++ 0x90 ∷ 0x01 ∷ 0x00 ∷ 0x00 ∷ []) (of 16 1)
+    -- a settled block is unsettled by a copy, and the count rises
+    ∷ sequence 8 4 (line (1 ∷ 2 ∷ [])) (reading (chunk (0x00 ∷ 0x60 ∷ 0x05 ∷ [])) ∷ [])
+    (reply [] (answer 0 7) ∷ []) (line (1 ∷ 5 ∷ [])) (0 ∷ settled ∷ []) 1
+    ∷ sequence 8 4 (line (1 ∷ 2 ∷ [])) (reading (chunk (0x00 ∷ 0x60 ∷ 0x05 ∷ [])) ∷ reading (chunk (0x00 ∷ 0x20 ∷ [])) ∷ [])
+    (reply [] (answer 0 7) ∷ reply [] (answer 0 6) ∷ []) (line (1 ∷ 1 ∷ [])) (0 ∷ 0 ∷ []) 2
+    -- a skip in front of a copy: the block before, and not the last painted one
+    ∷ reads 12 4 (line (1 ∷ 2 ∷ 3 ∷ [])) (chunk (0x60 ∷ 0x05 ∷ 0x00 ∷ 0x20 ∷ [])) 0 8 (line (5 ∷ 2 ∷ 2 ∷ [])) (settled ∷ 1 ∷ 1 ∷ [])
+    -- numbers: the greatest, one above it, a fourth group with its top bit, and one that the bytes cut short
+    ∷ varint (0xFF ∷ 0xFF ∷ 0xFF ∷ 0x07 ∷ []) 16777215 4
+    ∷ noVarint (0x80 ∷ 0x80 ∷ 0x80 ∷ 0x08 ∷ []) 12
+    ∷ noVarint (0x80 ∷ 0x80 ∷ 0x80 ∷ 0x80 ∷ []) 12
+    ∷ noVarint (0x80 ∷ 0x80 ∷ 0x80 ∷ []) 13
+    ∷ noVarint [] 13
+    -- feeds: width first; a chunk length of 0; an end inside a chunk, after a good one; sizes that get 1, and 2; a size number cut short
+    ∷ sequence 8 4 (of 32 9) (walking (0x02 ∷ 0x01 ∷ 0x08 ∷ 0xE1 ∷ 0x00 ∷ 0x00 ∷ 0x08 ∷ 0x60 ∷ 0x01 ∷ 0x60 ∷ 0x02 ∷ []) ∷ [])
+    (reply (answer 0 8 ∷ []) (answer 0 11) ∷ []) (line (1 ∷ 2 ∷ [])) (of 2 settled) 0
+    ∷ sequence 8 4 (of 32 9) (walking (0x02 ∷ 0x01 ∷ 0x00 ∷ []) ∷ []) (reply (answer 3 0 ∷ []) (answer 0 3) ∷ []) (of 32 9) (0 ∷ 1 ∷ []) 2
+    ∷ sequence 8 4 (of 32 9) (walking (0x02 ∷ 0x01 ∷ 0x06 ∷ 0xE1 ∷ 0x00 ∷ 0x00 ∷ 0x06 ∷ 0x61 ∷ 0x05 ∷ 0x05 ∷ 0xE1 ∷ []) ∷ [])
+    (reply (answer 0 6 ∷ []) (answer 13 10) ∷ []) (of 32 5) (of 2 settled) 0
+    ∷ sequence 8 4 (of 32 9) (walking (0x51 ∷ 0x32 ∷ []) ∷ walking (0x03 ∷ 0x01 ∷ 0x05 ∷ 0xE1 ∷ 0x00 ∷ 0x00 ∷ 0x05 ∷ 0x02 ∷ []) ∷ walking (0x02 ∷ 0x80 ∷ []) ∷ [])
+    (reply [] (answer 1 0) ∷ reply [] (answer 2 0) ∷ reply [] (answer 13 1) ∷ []) (of 32 9) (0 ∷ 1 ∷ []) 2
+    -- feed numbers that fail: each size number, before the size is looked at, and a chunk's length
+    ∷ sequence 8 4 (of 32 9) (walking (0x80 ∷ 0x00 ∷ 0x01 ∷ []) ∷ walking (0x51 ∷ []) ∷ walking (0x02 ∷ 0x01 ∷ 0x80 ∷ 0x00 ∷ []) ∷ walking (0x02 ∷ 0x01 ∷ 0x80 ∷ []) ∷ [])
+    (reply [] (answer 12 0) ∷ reply [] (answer 13 1) ∷ reply [] (answer 12 2) ∷ reply [] (answer 13 2) ∷ []) (of 32 9) (0 ∷ 1 ∷ []) 2
+    -- the writer: the chunk of example 6; three colours, the greatest repeated; eight; sixteen
+    ∷ writes 4 4 (of 16 0) (of 12 3 ++ 7 ∷ of 3 3) (chunk (0x80 ∷ 0x03 ∷ 0x07 ∷ 0x00 ∷ 0x08 ∷ []))
+    ∷ writes 4 4 (of 16 0) (of 8 9 ++ of 7 4 ++ 6 ∷ []) (chunk (0xA0 ∷ 0x04 ∷ 0x06 ∷ 0x09 ∷ 0x09 ∷ 0xAA ∷ 0xAA ∷ 0x00 ∷ 0x01 ∷ []))
+    ∷ writes 4 4 (of 16 9) octetBlock (chunk (0xC0 ∷ 0x00 ∷ 0x01 ∷ 0x02 ∷ 0x03 ∷ 0x04 ∷ 0x05 ∷ 0x06 ∷ 0x07 ∷ 0x01 ∷ 0x23 ∷ 0x45 ∷ 0x67 ∷ 0x89 ∷ 0xAB ∷ []))
+    ∷ writes 4 4 (of 16 0) (from 0 16) (chunk (0xE0 ∷ from 0 16))
+    -- the writer's ends of a kind: four colours, five, eight, nine; two equal blocks of two colours stand apart
+    ∷ encodes (given (colour 4) ∷ []) (0xA0 ∷ 0 ∷ 1 ∷ 2 ∷ 3 ∷ 0x1B ∷ 0xFF ∷ 0xFF ∷ 0xFF ∷ [])
+    ∷ encodes (given (colour 5) ∷ []) (0xC0 ∷ from 0 5 ++ of 3 4 ++ 0x05 ∷ 0x39 ∷ 0x92 ∷ 0x42 ∷ 0x92 ∷ 0x44 ∷ [])
+    ∷ encodes (given (colour 9) ∷ []) (0xE0 ∷ colour 9)
+    ∷ encodes (given (colour 2) ∷ given (colour 2) ∷ []) (0x80 ∷ 0 ∷ 1 ∷ 0x7F ∷ 0xFF ∷ 0x80 ∷ 0 ∷ 1 ∷ 0x7F ∷ 0xFF ∷ [])
+    -- runs of 16, of 256 and of 257
+    ∷ encodes (replicate 16 (given (of 16 5))) (0x6F ∷ 5 ∷ [])
+    ∷ encodes (map held (from 0 16)) (0x0F ∷ [])
+    ∷ encodes (replicate 256 (given (of 16 5))) (0x70 ∷ 0xFF ∷ 5 ∷ [])
+    ∷ encodes (replicate 257 (given (of 16 5))) (0x70 ∷ 0xFF ∷ 5 ∷ 0x60 ∷ 5 ∷ [])
+    -- the writer's runs: 17 of one colour; 17 skipped; an unchanged block ends a run even where it has the run's colour
+    ∷ writes 68 4 (of 272 0) (of 272 5) (chunk (0x70 ∷ 0x10 ∷ 0x05 ∷ []))
+    ∷ writes 68 4 (of 272 5) (of 272 5) (chunk (0x10 ∷ 0x10 ∷ []))
+    ∷ writes 20 4 (line (0 ∷ 0 ∷ 5 ∷ 0 ∷ 0 ∷ [])) (line (0 ∷ 5 ∷ 5 ∷ 5 ∷ 6 ∷ [])) (chunk (0x00 ∷ 0x60 ∷ 0x05 ∷ 0x00 ∷ 0x60 ∷ 0x05 ∷ 0x60 ∷ 0x06 ∷ []))
+    ∷ []
+
+pub examples-hold : hold (fifteen ++ further) ≡ true
+unfolding fifteen further holds
+examples-hold = refl

@@ -1,0 +1,74 @@
+// The types that every function of the project answers with and is lent. What they mean is defined in specs/.
+
+// What a call answers: a number of paper 01's table, and a place.
+#[repr(C)]
+pub struct Answer {
+    pub number: u8,
+    pub place: usize,
+}
+
+// Paper 01, "Numbered outcomes". specs/Answers.antt has the same names for the definitions.
+impl Answer {
+    // accepted
+    pub const OK: u8 = 0;
+    // width or height not allowed
+    pub const BAD_SIZE: u8 = 1;
+    // a lent picture or map is not of the exact length
+    pub const BAD_LENGTH: u8 = 2;
+    // chunk under 4 bytes
+    pub const CHUNK_SHORT: u8 = 3;
+    // stated length differs from the bytes given
+    pub const LENGTH_DIFFERS: u8 = 4;
+    // bytes end before an opcode, blocks remain
+    pub const BLOCKS_REMAIN: u8 = 5;
+    // bytes end inside an opcode
+    pub const OPCODE_CUT: u8 = 6;
+    // opcode F
+    pub const OPCODE_UNKNOWN: u8 = 7;
+    // copy with no such block before
+    pub const NONE_BEFORE: u8 = 8;
+    // opcode runs past the last block
+    pub const PAST_LAST_BLOCK: u8 = 9;
+    // entry not filled in this chunk
+    pub const ENTRY_EMPTY: u8 = 10;
+    // bytes follow the last block
+    pub const BYTES_FOLLOW: u8 = 11;
+    // feed number badly formed
+    pub const BAD_VARINT: u8 = 12;
+    // feed ends inside a number or a chunk
+    pub const FEED_CUT: u8 = 13;
+    // output too short
+    pub const OUTPUT_SHORT: u8 = 14;
+}
+
+// A picture's width and height in pixels.
+#[repr(C)]
+pub struct Size {
+    pub width: usize,
+    pub height: usize,
+}
+
+// The limits, and what follows from them. specs/Sizes.antt has the same names for the definitions.
+impl Size {
+    pub const MAX_WIDTH: usize = 320;
+
+    pub const MAX_HEIGHT: usize = 200;
+    // in blocks: to a line, and lines of them
+    pub const MAX_COLUMNS: usize = Size::MAX_WIDTH / 4;
+
+    pub const MAX_LINES: usize = Size::MAX_HEIGHT / 4;
+
+    pub const MAX_BLOCKS: usize = Size::MAX_COLUMNS * Size::MAX_LINES;
+
+    pub const MAX_PIXELS: usize = Size::MAX_WIDTH * Size::MAX_HEIGHT;
+}
+
+// The map's entry of a settled block.
+pub const SETTLED: u16 = 65535;
+
+// What counting a map's unsettled entries answers.
+#[repr(C)]
+pub struct Count {
+    pub answer: Answer,
+    pub unsettled: usize,
+}

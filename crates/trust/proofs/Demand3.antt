@@ -1,0 +1,114 @@
+-- Demand 3 holds: every sequence has one list of origins, whatever the picture, and from a fresh map the map is that list written down.
+-- Assumes nothing.
+use Prim.Native.Nat.{ℕ, _<_}
+use mathlib.Core.Path.{_≡_, refl, sym, ap, _∙_}
+use mathlib.Core.Logic.{_↔_, _≢_}
+use mathlib.Core.List.{List, _++_}
+use mathlib.Core.Bool.{true}
+use native.Mathlib.Omega.{arith}
+use lib.ListN.{getD, replicate, length-replicate, getD-replicate}
+use Rattle.spec.specs.declared.Size.{Size}
+use Rattle.spec.specs.Basics.{Every}
+use Rattle.spec.specs.Sizes.{allowed, pixels, columns, lines, blocks}
+use Rattle.spec.specs.Pictures.{Origin, given, held, Below, place, pixel, shown, blockAt}
+use Rattle.spec.specs.Maps.{settled, entry, fresh, unsettled}
+use Rattle.spec.specs.Boards.{Board, board, left, Exact}
+use Rattle.spec.specs.Calls.{Call, call, run}
+use Rattle.spec.proofs.Lists.{every-replicate, length-from}
+use Rattle.spec.proofs.Limits.{allowed-size, area, blocks-below-mark}
+use Rattle.spec.proofs.Places.{place-below}
+use Rattle.spec.proofs.Blocks.{painted, shown-at}
+use Rattle.spec.proofs.Origins.{remap-at, below-at, entry-held}
+use Rattle.spec.proofs.Boards.{inTurn-append}
+use Rattle.trust.specs.Means.{Means}
+use Rattle.trust.specs.Demand.{IsPicture, CallFor, ran, shows, entryAt, Alike, Demand3}
+use Rattle.trust.proofs.Meanings.{run-means}
+
+-- a sequence in two parts: the second goes on where the first ended, and the answers are appended
+pub run-append : (z : Size) (xs ys : List Call) (b : Board)
+    → let first = run z xs b in
+    let second = run z ys (first .board) in
+    run z (xs ++ ys) b ≡ left (first .said ++ second .said) (second .board)
+run-append z = inTurn-append (call z)
+
+module _ (z : Size) (ok : allowed z ≡ true) where
+  -- a block's origin decides both its entry, from a fresh map, and what it shows
+  plain : (x : ℕ) → x < 256 → IsPicture z (replicate (pixels z) x)
+  plain x hx = record { exact = length-replicate (pixels z) x; bytes = every-replicate (pixels z) x hx }
+
+  -- a held block's first pixel is that of the starting picture
+  first-pixel : (j x : ℕ) → j < blocks z → getD (blockAt (columns z) (replicate (pixels z) x) j) 0 0 ≡ x
+  first-pixel j x h =
+      let q : place (columns z) j 0 < pixels z = rw (area z ok) at (place-below (columns z) (lines z) (allowed-size z ok .wide) j 0 h (omega arith)) in
+      shown-at (columns z) (replicate (pixels z) x) (held j) 0 (omega arith) ∙ getD-replicate {A = ℕ} (pixels z) (place (columns z) j 0) x 0 q
+
+  settle : (o : Origin) → Below (blocks z) o
+      → (entry (fresh (blocks z)) o ≡ settled) ↔ ((r s : List ℕ) → IsPicture z r → IsPicture z s → shown (columns z) r o ≡ shown (columns z) s o)
+  unfolding shown
+  settle (given px) u = ((λ e r s ir is. refl), (λ f. refl))
+  settle (held j) u = (
+    (λ e. absurd (omega (arith, entry-held (blocks z) j u, blocks-below-mark z ok))),
+    (λ f.
+        let e = f (replicate (pixels z) 0) (replicate (pixels z) 1) (plain 0 (omega arith)) (plain 1 (omega arith)) in
+        absurd (omega (arith, first-pixel j 0 u, first-pixel j 1 u, ap (λ (l : List ℕ). getD l 0 0) e))),
+  )
+
+  name : (o : Origin) → Below (blocks z) o → entry (fresh (blocks z)) o ≢ settled
+      → (entry (fresh (blocks z)) o < blocks z) × ((s : List ℕ) → shown (columns z) s o ≡ blockAt (columns z) s (entry (fresh (blocks z)) o))
+  name (given px) u ne = absurd (ne refl)
+  name (held j) u ne = let e = entry-held (blocks z) j u in rw e (u, (λ s. refl))
+
+  module _ (calls : List Call) (us : Every (CallFor z) calls) where
+    means : Means z (run z calls)
+    means = run-means z ok calls us
+
+    -- the origin of block k over the whole sequence
+    origin : ℕ → Origin
+    origin k = getD (means .origins) k (held 0)
+
+    below : (k : ℕ) → Below (blocks z) (origin k)
+    unfolding origin
+    below k = below-at (blocks z) (allowed-size z ok .some) (means .origins) (means .covers) k
+
+    module _ (p : List ℕ) (i : IsPicture z p) where
+      lent : Exact z (board p (fresh (blocks z)))
+      lent = record { picture = i .exact; map = length-from 0 (blocks z) }
+
+      ran-said : ran z calls p .said ≡ means .said
+      ran-said = means .says (board p (fresh (blocks z))) lent
+
+      ran-entry : (k : ℕ) → k < blocks z → entryAt z calls p k ≡ entry (fresh (blocks z)) (origin k)
+      unfolding origin
+      ran-entry k h =
+          ap (λ (b : Board). getD (b .map) k 0) (means .leaves (board p (fresh (blocks z))) lent)
+          ∙ remap-at (means .origins) (fresh (blocks z)) k (rw (means .covers .size) h)
+
+      ran-shows : (k : ℕ) → k < blocks z → shows z calls p k ≡ shown (columns z) p (origin k)
+      unfolding origin
+      ran-shows k h =
+          ap (λ (b : Board). blockAt (columns z) (b .picture) k) (means .leaves (board p (fresh (blocks z))) lent)
+          ∙ painted (columns z) (lines z) (allowed-size z ok .wide) (means .origins) p k h
+
+    alike : (p q : List ℕ) → IsPicture z p → IsPicture z q → Alike z calls p q
+    alike p q ip iq =
+        record {
+          answers = ran-said p ip ∙ sym (ran-said q iq);
+          maps = maps;
+          counts = ap unsettled maps;
+          settles = λ k h.
+              let iff = settle (origin k) (below k) in (
+                (λ e r s ir is. ran-shows r ir k h ∙ iff .0 (sym (ran-entry p ip k h) ∙ e) r s ir is ∙ sym (ran-shows s is k h)),
+                (λ f. ran-entry p ip k h ∙ iff .1 (λ r s ir is. sym (ran-shows r ir k h) ∙ f r s ir is ∙ ran-shows s is k h)),
+              );
+          names = λ k h ne.
+              let m = name (origin k) (below k) (λ e. ne (ran-entry p ip k h ∙ e)) in
+              rw (ran-entry p ip k h) (m .0, ran-shows p ip k h ∙ m .1 p, ran-shows q iq k h ∙ m .1 q);
+        }
+      where
+        maps : ran z calls p .board .map ≡ ran z calls q .board .map
+        maps =
+            ap (λ (b : Board). b .map) (means .leaves (board p (fresh (blocks z))) (lent p ip))
+            ∙ sym (ap (λ (b : Board). b .map) (means .leaves (board q (fresh (blocks z))) (lent q iq)))
+
+pub demand3 : Demand3
+demand3 z ok calls us p q ip iq = alike z ok calls us p q ip iq

@@ -1,0 +1,3 @@
+pub mod Meanings
+pub mod Refusals
+pub mod Demand3
