@@ -19,12 +19,15 @@ from a (suc m) = a ∷ from (suc a) m
 abbrev pub part : List ℕ → ℕ → ℕ → List ℕ
 part s at n = take n (drop at s)
 
--- whether two lists are the same
+-- whether two lists are the same, by a test of their elements; and of numbers
+abbrev pub sameBy : {A : Type 0} → (A → A → Bool) → List A → List A → Bool
+sameBy test [] [] = true
+sameBy test [] (y ∷ ys) = false
+sameBy test (x ∷ xs) [] = false
+sameBy test (x ∷ xs) (y ∷ ys) = test x y && sameBy test xs ys
+
 abbrev pub same : List ℕ → List ℕ → Bool
-same [] [] = true
-same [] (y ∷ ys) = false
-same (x ∷ xs) [] = false
-same (x ∷ xs) (y ∷ ys) = eqb x y && same xs ys
+same xs ys = sameBy eqb xs ys
 
 -- every element has the property
 pub data Every {ℓ} {A : Type ℓ} (P : A → Type 0) : List A → Type ℓ where

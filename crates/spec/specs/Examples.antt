@@ -1,139 +1,18 @@
--- 01, "Proved examples": one table, one test of a row, one statement. Below 01's fifteen and its listing stand rows that pin what
--- those leave free. Assumes nothing.
+-- 01, "Proved examples": one table and one statement. `fifteen` are 01's, with its listing; `further` pin what those leave free
+-- (docs/DECISIONS.md, "How many examples?"). Bytes are hex. Assumes nothing.
 use Prim.Native.Nat.{ℕ, zero, suc, _+_, _-_, _*_, _/_, _%_}
 use mathlib.Core.Path.{_≡_, refl}
 use mathlib.Core.List.{List, [], _∷_, _++_, map}
-use mathlib.Core.Bool.{Bool, true, false, _&&_}
-use lib.Dec.{eqb}
-use lib.ListN.{length, getD, replicate}
-use Rattle.spec.specs.declared.Answer.{Answer}
-use Rattle.spec.specs.declared.Size.{Size}
-use Rattle.spec.specs.Basics.{if, from, same}
-use Rattle.spec.specs.Answers.{answer, checked}
-use Rattle.spec.specs.Sizes.{blocks, allowed}
-use Rattle.spec.specs.Sizes as Sizes
-use Rattle.spec.specs.Pictures.{Origin, given, held}
-use Rattle.spec.specs.Pictures as Pictures
-use Rattle.spec.specs.Maps.{settled, fresh, unsettled, remap, freshMap, countMap}
-use Rattle.spec.specs.Flags.{upper24, lower24}
-use Rattle.spec.specs.Flags as Flags
-use Rattle.spec.specs.Chunks.{Outcome, refused, accepted, decode}
-use Rattle.spec.specs.Chunks as Chunks
-use Rattle.spec.specs.Boards.{Left, board, read, inTurn}
-use Rattle.spec.specs.Writing.{Wrote, opcodes, chunkFor, write}
-use Rattle.spec.specs.Writing as Writing
-use Rattle.spec.specs.Feeds.{Varint, bad, value, varintAt, Reply, reply, walk}
-use Rattle.spec.specs.Feeds as Feeds
-use Rattle.spec.specs.Calls.{Call, reading, walking, call, run}
-
-pub data Row : Type 0 where
-  -- six flag bytes: the two 24-bit numbers
-  octet : List ℕ → ℕ → ℕ → Row
-  -- width, height, a starting picture with a fresh map, calls: what each says, the picture, the map and the count at the end
-  sequence : ℕ → ℕ → List ℕ → List Call → List Reply → List ℕ → List ℕ → ℕ → Row
-  -- width, height: what read, write, fresh map and count answer, all lent buffers empty. An allowed size gets 2
-  sizes : ℕ → ℕ → ℕ → Row
-  -- width, height, the lengths of the lent picture and map: what reading an empty chunk answers
-  readLengths : ℕ → ℕ → ℕ → ℕ → ℕ → Row
-  -- width, height, the lengths of the old and the new picture: what writing to an empty output answers
-  writeLengths : ℕ → ℕ → ℕ → ℕ → ℕ → Row
-  -- width, height, a map: what fresh map and count answer, the map that is left, and the count
-  maps : ℕ → ℕ → List ℕ → ℕ → List ℕ → ℕ → Row
-  -- width, height, old picture, new picture: the chunk; written where it just fits, with a byte behind it, and with one byte too few
-  writes : ℕ → ℕ → List ℕ → List ℕ → List ℕ → Row
-  -- origins: the opcodes of the writer's chunk
-  encodes : List Origin → List ℕ → Row
-  -- bytes that start with a number: its value and the place after it; or 12 or 13
-  varint : List ℕ → ℕ → ℕ → Row
-  noVarint : List ℕ → ℕ → Row
-  -- blocks, an accepted chunk: the pixels that it gives the last of them
-  lastGiven : ℕ → List ℕ → List ℕ → Row
-
-abbrev pub size : ℕ → ℕ → Size
-size w h = record { width = w; height = h }
-
-abbrev pub sameAnswer : Answer → Answer → Bool
-sameAnswer x y = eqb (x .number) (y .number) && eqb (x .place) (y .place)
-
-abbrev pub sameAnswers : List Answer → List Answer → Bool
-sameAnswers [] [] = true
-sameAnswers [] (y ∷ ys) = false
-sameAnswers (x ∷ xs) [] = false
-sameAnswers (x ∷ xs) (y ∷ ys) = sameAnswer x y && sameAnswers xs ys
-
-abbrev pub sameReplies : List Reply → List Reply → Bool
-sameReplies [] [] = true
-sameReplies [] (y ∷ ys) = false
-sameReplies (x ∷ xs) [] = false
-sameReplies (x ∷ xs) (y ∷ ys) = sameAnswers (x .inside) (y .inside) && sameAnswer (x .answer) (y .answer) && sameReplies xs ys
-
-abbrev pub isRan : Left (List Reply) → List Reply → List ℕ → List ℕ → ℕ → Bool
-isRan r replies pic m n =
-    sameReplies (r .said) replies && same (r .board .picture) pic && same (r .board .map) m && eqb (unsettled (r .board .map)) n
-
-abbrev pub isWrote : Wrote → Answer → List ℕ → Bool
-isWrote w a out = sameAnswer (w .answer) a && same (w .output) out
-
-abbrev pub isVarint : Varint → ℕ → ℕ → Bool
-isVarint (bad e) v p = false
-isVarint (value x q) v p = eqb x v && eqb q p
-
-abbrev pub isBad : Varint → ℕ → Bool
-isBad (bad e) x = eqb e x
-isBad (value x q) e = false
-
-abbrev pub isGiven : Origin → List ℕ → Bool
-isGiven (given px) qx = same px qx
-isGiven (held k) qx = false
-
-abbrev pub lastIs : Outcome → ℕ → List ℕ → Bool
-lastIs (refused a) n px = false
-lastIs (accepted os) n px = eqb (length os) n && isGiven (getD os (n - 1) (held 0)) px
-
--- n pixels of one colour
-abbrev pub of : ℕ → ℕ → List ℕ
-of n c = replicate n c
-
-unfoldable pub holds : Row → Bool
-unfolding if checked Sizes.side Sizes.fault Pictures.place Pictures.blockOf Pictures.pixelOf Pictures.shown Pictures.paint
-    Flags.digits Flags.upper24 Flags.lower24 Flags.flags Flags.octetBytes Flags.flagBytes
-    Chunks.put Chunks.missing Chunks.body Chunks.opcode Chunks.blocksBy Chunks.extend Chunks.stored Chunks.step Chunks.finish Chunks.loop Chunks.decode
-    remap freshMap countMap read inTurn
-    Writing.insert Writing.colours Writing.entries Writing.entryOf Writing.tabled Writing.single Writing.counting Writing.plain
-    Writing.opcodeFor Writing.alike Writing.opcodes Writing.encode Writing.difference Writing.differences Writing.emit Writing.write
-    Feeds.groups Feeds.varintAt Feeds.chunksFrom Feeds.feedOf Feeds.walk call
-holds (octet bs x y) = eqb (upper24 bs) x && eqb (lower24 bs) y
-holds (sequence w h start calls replies pic m n) =
-    isRan (run (size w h) calls (board start (fresh (blocks (size w h))))) replies pic m n
-holds (sizes w h e) =
-    let z = size w h in
-    let a = answer e 0 in
-    sameAnswer (read z [] (board [] []) .said) a
-    && isWrote (write z [] [] []) a []
-    && sameAnswer (freshMap z [] .answer) a && same (freshMap z [] .map) []
-    && sameAnswer (countMap z [] .answer) a && eqb (countMap z [] .unsettled) 0
-holds (readLengths w h pixels entries e) = sameAnswer (read (size w h) [] (board (of pixels 0) (of entries 0)) .said) (answer e 0)
-holds (writeLengths w h old new e) = isWrote (write (size w h) (of old 0) (of new 0) []) (answer e 0) []
-holds (maps w h m e after n) =
-    let z = size w h in
-    let a = answer e 0 in
-    sameAnswer (freshMap z m .answer) a && same (freshMap z m .map) after
-    && sameAnswer (countMap z m .answer) a && eqb (countMap z m .unsettled) n
-holds (encodes os s) = same (opcodes 0 os) s
-holds (writes w h old new s) =
-    let z = size w h in
-    let n = length s in
-    same (chunkFor z old new) s
-    && isWrote (write z old new (of n 9)) (answer 0 n) s
-    && isWrote (write z old new (of (n + 1) 9)) (answer 0 n) (s ++ 9 ∷ [])
-    && isWrote (write z old new (of (n - 1) 9)) (answer 14 0) (of (n - 1) 9)
-holds (varint s v p) = isVarint (varintAt s 0) v p
-holds (noVarint s e) = isBad (varintAt s 0) e
-holds (lastGiven n s px) = lastIs (decode n s) n px
-
-abbrev pub hold : List Row → Bool
-hold [] = true
-hold (x ∷ xs) = holds x && hold xs
+use mathlib.Core.Bool.{true}
+use lib.ListN.{length, replicate}
+use Rattle.spec.specs.Basics.{from}
+use Rattle.spec.specs.Answers.{answer}
+use Rattle.spec.specs.Sizes.{blocks}
+use Rattle.spec.specs.Pictures.{given, held}
+use Rattle.spec.specs.Maps.{settled, fresh, unsettled}
+use Rattle.spec.specs.Feeds.{reply}
+use Rattle.spec.specs.Calls.{reading, walking}
+use Rattle.spec.specs.Rows.{Row, octet, sequence, lastGiven, readLengths, writeLengths, maps, writes, encodes, varint, noVarint, size, of, holds, hold}
 
 -- a chunk read over a starting picture and a fresh map
 abbrev pub reads : ℕ → ℕ → List ℕ → List ℕ → ℕ → ℕ → List ℕ → List ℕ → Row
@@ -142,6 +21,10 @@ reads w h start s n p pic m = sequence w h start (reading s ∷ []) (reply [] (a
 -- a chunk that is refused over a picture of nines and a fresh map: both stay
 abbrev pub refuses : ℕ → ℕ → List ℕ → ℕ → ℕ → Row
 refuses w h s n p = reads w h (of (w * h) 9) s n p (of (w * h) 9) (fresh (blocks (size w h)))
+
+-- what read, write, fresh map and count answer where every lent buffer is empty: an allowed size gets 2
+abbrev pub sizes : ℕ → ℕ → ℕ → List Row
+sizes w h e = readLengths w h 0 0 e ∷ writeLengths w h 0 0 e ∷ maps w h [] e [] 0 ∷ []
 
 -- four pixels of each colour
 abbrev pub across : List ℕ → List ℕ
@@ -162,8 +45,8 @@ pairs j zero = []
 pairs j (suc n) = 0x80 ∷ j % 256 ∷ j / 256 ∷ 0x00 ∷ 0x00 ∷ pairs (suc j) n
 
 -- a block of n colours: 0, 1, .., and the greatest again
-abbrev pub colour : ℕ → List ℕ
-colour n = from 0 n ++ of (16 - n) (n - 1)
+abbrev pub coloured : ℕ → List ℕ
+coloured n = from 0 n ++ of (16 - n) (n - 1)
 
 abbrev pub octetBlock : List ℕ
 octetBlock = 0 ∷ 0 ∷ 2 ∷ 2 ∷ 2 ∷ 1 ∷ 2 ∷ 6 ∷ 4 ∷ 2 ∷ 3 ∷ 2 ∷ 1 ∷ 5 ∷ 7 ∷ 3 ∷ []
@@ -190,13 +73,9 @@ fifteen =
     -- 12: an empty chunk gets 3, a stated length of 7 gets 4; 320x200 is allowed; 324x4, 4x204, 6x4 and 0x4 get 1
     ∷ refuses 4 4 [] 3 0
     ∷ refuses 4 4 (0xE1 ∷ 0x00 ∷ 0x00 ∷ 0x07 ∷ 0x60 ∷ 0x05 ∷ []) 4 0
-    ∷ sizes 320 200 2
-    ∷ sizes 324 4 1
-    ∷ sizes 4 204 1
-    ∷ sizes 6 4 1
-    ∷ sizes 0 4 1
+    ∷ sizes 320 200 2 ++ sizes 324 4 1 ++ sizes 4 204 1 ++ sizes 6 4 1 ++ sizes 0 4 1
     -- 13: zeros to fives; equal pictures
-    ∷ writes 4 4 (of 16 0) (of 16 5) (0xE1 ∷ 0x00 ∷ 0x00 ∷ 0x06 ∷ 0x60 ∷ 0x05 ∷ [])
+    ++ writes 4 4 (of 16 0) (of 16 5) (0xE1 ∷ 0x00 ∷ 0x00 ∷ 0x06 ∷ 0x60 ∷ 0x05 ∷ [])
     ∷ writes 4 4 (of 16 5) (of 16 5) (0xE1 ∷ 0x00 ∷ 0x00 ∷ 0x05 ∷ 0x00 ∷ [])
     -- 14: 300 is AC 02; 80 00 gets 12
     ∷ varint (0xAC ∷ 0x02 ∷ []) 300 2
@@ -295,10 +174,10 @@ further =
     ∷ writes 4 4 (of 16 9) octetBlock (chunk (0xC0 ∷ 0x00 ∷ 0x01 ∷ 0x02 ∷ 0x03 ∷ 0x04 ∷ 0x05 ∷ 0x06 ∷ 0x07 ∷ 0x01 ∷ 0x23 ∷ 0x45 ∷ 0x67 ∷ 0x89 ∷ 0xAB ∷ []))
     ∷ writes 4 4 (of 16 0) (from 0 16) (chunk (0xE0 ∷ from 0 16))
     -- the writer's ends of a kind: four colours, five, eight, nine; two equal blocks of two colours stand apart
-    ∷ encodes (given (colour 4) ∷ []) (0xA0 ∷ 0 ∷ 1 ∷ 2 ∷ 3 ∷ 0x1B ∷ 0xFF ∷ 0xFF ∷ 0xFF ∷ [])
-    ∷ encodes (given (colour 5) ∷ []) (0xC0 ∷ from 0 5 ++ of 3 4 ++ 0x05 ∷ 0x39 ∷ 0x92 ∷ 0x42 ∷ 0x92 ∷ 0x44 ∷ [])
-    ∷ encodes (given (colour 9) ∷ []) (0xE0 ∷ colour 9)
-    ∷ encodes (given (colour 2) ∷ given (colour 2) ∷ []) (0x80 ∷ 0 ∷ 1 ∷ 0x7F ∷ 0xFF ∷ 0x80 ∷ 0 ∷ 1 ∷ 0x7F ∷ 0xFF ∷ [])
+    ∷ encodes (given (coloured 4) ∷ []) (0xA0 ∷ 0 ∷ 1 ∷ 2 ∷ 3 ∷ 0x1B ∷ 0xFF ∷ 0xFF ∷ 0xFF ∷ [])
+    ∷ encodes (given (coloured 5) ∷ []) (0xC0 ∷ from 0 5 ++ of 3 4 ++ 0x05 ∷ 0x39 ∷ 0x92 ∷ 0x42 ∷ 0x92 ∷ 0x44 ∷ [])
+    ∷ encodes (given (coloured 9) ∷ []) (0xE0 ∷ coloured 9)
+    ∷ encodes (given (coloured 2) ∷ given (coloured 2) ∷ []) (0x80 ∷ 0 ∷ 1 ∷ 0x7F ∷ 0xFF ∷ 0x80 ∷ 0 ∷ 1 ∷ 0x7F ∷ 0xFF ∷ [])
     -- runs of 16, of 256 and of 257
     ∷ encodes (replicate 16 (given (of 16 5))) (0x6F ∷ 5 ∷ [])
     ∷ encodes (map held (from 0 16)) (0x0F ∷ [])

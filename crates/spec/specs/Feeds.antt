@@ -16,9 +16,13 @@ pub data Varint : Type 0 where
   bad : ℕ → Varint
   value : ℕ → ℕ → Varint
 
+-- a number is not "above 16,777,215"
+abbrev pub maxNumber : ℕ
+maxNumber = 16777215
+
 -- the last group b, worth `scale`, makes v with those before it: "last of several groups zero, 12; above 16,777,215, 12"
 abbrev pub lastGroup : ℕ → ℕ → ℕ → ℕ → Varint
-lastGroup scale b v after = if (ltb 1 scale && eqb b 0 || leb (2 ^ 24) v) (bad badVarint) (value v after)
+lastGroup scale b v after = if (ltb 1 scale && eqb b 0 || ltb maxNumber v) (bad badVarint) (value v after)
 
 -- the group at `at`, worth `scale`, with those before it making `sum`; so many may still be read. "In order: bytes end first, 13;
 -- fourth group with its top bit, 12". "one to four groups of seven bits, lowest group first; the top bit set means another follows"

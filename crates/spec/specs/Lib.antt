@@ -10,4 +10,5 @@ pub mod Boards
 pub mod Writing
 pub mod Feeds
 pub mod Calls
+pub mod Rows
 pub mod Examples

@@ -74,16 +74,16 @@ alike x (suc most) (y ∷ ys) =
     let m = suc (alike x most ys) in
     if (joins x y) m 0
 
--- "at most 256" blocks to a run: one, and so many more
-abbrev pub runMore : ℕ
-runMore = 255
+-- a run is of "at most 256" blocks
+abbrev pub maxRun : ℕ
+maxRun = 256
 
 -- the opcodes for all blocks but the first j, which stand in a run already written
 unfoldable pub opcodes : ℕ → List Origin → List ℕ
 opcodes j [] = []
 opcodes (suc j) (x ∷ xs) = opcodes j xs
 opcodes zero (x ∷ xs) =
-    let more = alike x runMore xs in
+    let more = alike x (maxRun - 1) xs in
     opcodeFor x (suc more) ++ opcodes more xs
 
 -- "Byte 0 is E1 (hex). Blocks in order." For lists whose entry k is `held k` or `given` sixteen bytes

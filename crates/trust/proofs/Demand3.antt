@@ -6,16 +6,19 @@ use mathlib.Core.Logic.{_↔_, _≢_}
 use mathlib.Core.List.{List, _++_}
 use mathlib.Core.Bool.{true}
 use native.Mathlib.Omega.{arith}
-use lib.ListN.{getD, replicate, length-replicate, getD-replicate}
+use lib.Dec.{eqb}
+use lib.ListN.{length, getD, replicate, length-replicate, getD-replicate}
+use borrow.Author.Tests.{eq-eqb}
 use Rattle.spec.specs.declared.Size.{Size}
 use Rattle.spec.specs.Basics.{Every}
+use Rattle.spec.specs.Answers.{ok, answer, checked}
 use Rattle.spec.specs.Sizes.{allowed, pixels, columns, lines, blocks}
 use Rattle.spec.specs.Pictures.{Origin, given, held, Below, place, pixel, shown, blockAt}
-use Rattle.spec.specs.Maps.{settled, entry, fresh, unsettled}
+use Rattle.spec.specs.Maps.{settled, entry, fresh, unsettled, mapLeft, mapFault, freshMap, countMap}
 use Rattle.spec.specs.Boards.{Board, board, left, Exact}
 use Rattle.spec.specs.Calls.{Call, call, run}
 use Rattle.spec.proofs.Lists.{every-replicate, length-from}
-use Rattle.spec.proofs.Limits.{allowed-size, area, blocks-below-mark}
+use Rattle.spec.proofs.Limits.{allowed-size, area, blocks-below-mark, fault-none}
 use Rattle.spec.proofs.Places.{place-below}
 use Rattle.spec.proofs.Blocks.{painted, shown-at}
 use Rattle.spec.proofs.Origins.{remap-at, below-at, entry-held}
@@ -31,7 +34,21 @@ pub run-append : (z : Size) (xs ys : List Call) (b : Board)
     run z (xs ++ ys) b ≡ left (first .said ++ second .said) (second .board)
 run-append z = inTurn-append (call z)
 
-module _ (z : Size) (ok : allowed z ≡ true) where
+-- what the fresh map and the count of demand 3 are to those who call for them: where 1 and 2 are not given, `freshMap` leaves that map and
+-- `countMap` gives that count
+module _ (z : Size) (a : allowed z ≡ true) (m : List ℕ) (e : length m ≡ blocks z) where
+  no-map-fault : mapFault z m ≡ ok
+  no-map-fault = fault-none z (eqb (length m) (blocks z)) a (eq-eqb (length m) (blocks z) e)
+
+  pub starts-fresh : freshMap z m ≡ mapLeft (answer ok 0) (fresh (blocks z))
+  unfolding freshMap checked
+  starts-fresh = rw no-map-fault
+
+  pub counts-unsettled : countMap z m ≡ record { answer = answer ok 0; unsettled = unsettled m }
+  unfolding countMap checked
+  counts-unsettled = rw no-map-fault
+
+module _ (z : Size) (fine : allowed z ≡ true) where
   -- a block's origin decides both its entry, from a fresh map, and what it shows
   plain : (x : ℕ) → x < 256 → IsPicture z (replicate (pixels z) x)
   plain x hx = record { exact = length-replicate (pixels z) x; bytes = every-replicate (pixels z) x hx }
@@ -39,7 +56,7 @@ module _ (z : Size) (ok : allowed z ≡ true) where
   -- a held block's first pixel is that of the starting picture
   first-pixel : (j x : ℕ) → j < blocks z → getD (blockAt (columns z) (replicate (pixels z) x) j) 0 0 ≡ x
   first-pixel j x h =
-      let q : place (columns z) j 0 < pixels z = rw (area z ok) at (place-below (columns z) (lines z) (allowed-size z ok .wide) j 0 h (omega arith)) in
+      let q : place (columns z) j 0 < pixels z = rw (area z fine) at (place-below (columns z) (lines z) (allowed-size z fine .wide) j 0 h (omega arith)) in
       shown-at (columns z) (replicate (pixels z) x) (held j) 0 (omega arith) ∙ getD-replicate {A = ℕ} (pixels z) (place (columns z) j 0) x 0 q
 
   settle : (o : Origin) → Below (blocks z) o
@@ -47,7 +64,7 @@ module _ (z : Size) (ok : allowed z ≡ true) where
   unfolding shown
   settle (given px) u = ((λ e r s ir is. refl), (λ f. refl))
   settle (held j) u = (
-    (λ e. absurd (omega (arith, entry-held (blocks z) j u, blocks-below-mark z ok))),
+    (λ e. absurd (omega (arith, entry-held (blocks z) j u, blocks-below-mark z fine))),
     (λ f.
         let e = f (replicate (pixels z) 0) (replicate (pixels z) 1) (plain 0 (omega arith)) (plain 1 (omega arith)) in
         absurd (omega (arith, first-pixel j 0 u, first-pixel j 1 u, ap (λ (l : List ℕ). getD l 0 0) e))),
@@ -60,7 +77,7 @@ module _ (z : Size) (ok : allowed z ≡ true) where
 
   module _ (calls : List Call) (us : Every (CallFor z) calls) where
     means : Means z (run z calls)
-    means = run-means z ok calls us
+    means = run-means z fine calls us
 
     -- the origin of block k over the whole sequence
     origin : ℕ → Origin
@@ -68,7 +85,7 @@ module _ (z : Size) (ok : allowed z ≡ true) where
 
     below : (k : ℕ) → Below (blocks z) (origin k)
     unfolding origin
-    below k = below-at (blocks z) (allowed-size z ok .some) (means .origins) (means .covers) k
+    below k = below-at (blocks z) (allowed-size z fine .some) (means .origins) (means .covers) k
 
     module _ (p : List ℕ) (i : IsPicture z p) where
       lent : Exact z (board p (fresh (blocks z)))
@@ -87,7 +104,7 @@ module _ (z : Size) (ok : allowed z ≡ true) where
       unfolding origin
       ran-shows k h =
           ap (λ (b : Board). blockAt (columns z) (b .picture) k) (means .leaves (board p (fresh (blocks z))) lent)
-          ∙ painted (columns z) (lines z) (allowed-size z ok .wide) (means .origins) p k h
+          ∙ painted (columns z) (lines z) (allowed-size z fine .wide) (means .origins) p k h
 
     alike : (p q : List ℕ) → IsPicture z p → IsPicture z q → Alike z calls p q
     alike p q ip iq =
@@ -111,4 +128,4 @@ module _ (z : Size) (ok : allowed z ≡ true) where
             ∙ sym (ap (λ (b : Board). b .map) (means .leaves (board q (fresh (blocks z))) (lent q iq)))
 
 pub demand3 : Demand3
-demand3 z ok calls us p q ip iq = alike z ok calls us p q ip iq
+demand3 z fine calls us p q ip iq = alike z fine calls us p q ip iq

@@ -24,18 +24,18 @@ use Rattle.spec.proofs.Boards.{exact-paint, no-fault, read-exact}
 use Rattle.trust.specs.Means.{Means}
 use Rattle.trust.specs.Demand.{FeedFor, itsSize, noneRead, CallFor}
 
-module _ (z : Size) (ok : allowed z ≡ true) where
+module _ (z : Size) (fine : allowed z ≡ true) where
   -- nothing happens to a board
   board-unchanged : (b : Board) → Exact z b → paintBoard z (unchanged (blocks z)) b ≡ b
   board-unchanged b e =
-      let pic = paint-unchanged (columns z) (lines z) (allowed-size z ok .wide) (b .picture) (e .picture ∙ sym (area z ok)) in
+      let pic = paint-unchanged (columns z) (lines z) (allowed-size z fine .wide) (b .picture) (e .picture ∙ sym (area z fine)) in
       let m = remap-unchanged (blocks z) (b .map) (e .map) in
       λ i. board (pic i) (m i)
 
   board-compose : (first second : List Origin) (b : Board) → Covers (blocks z) first → Covers (blocks z) second
       → paintBoard z second (paintBoard z first b) ≡ paintBoard z (compose first second) b
   board-compose first second b g h =
-      let s = allowed-size z ok in
+      let s = allowed-size z fine in
       let pic = sym (paint-compose (columns z) (lines z) (s .wide) (s .some) first second g h (b .picture)) in
       let m = sym (remap-compose (blocks z) (s .some) first g second (b .map) h) in
       λ i. board (pic i) (m i)
@@ -58,11 +58,11 @@ module _ (z : Size) (ok : allowed z ≡ true) where
     inTurn-means none = nothing (inTurn f []) [] (λ b e. refl)
     inTurn-means (also {x = a} {xs = more} m ms) =
         let rest = inTurn-means ms in
-        let next : (b : Board) → Exact z b → Exact z (f a b .board) = λ b e. rw (m .leaves b e) (exact-paint z ok (m .origins) b (m .covers)) in
+        let next : (b : Board) → Exact z b → Exact z (f a b .board) = λ b e. rw (m .leaves b e) (exact-paint z fine (m .origins) b (m .covers)) in
         record {
           said = m .said ∷ rest .said;
           origins = compose (m .origins) (rest .origins);
-          covers = covers-compose (blocks z) (allowed-size z ok .some) (m .origins) (m .covers) (rest .origins) (rest .covers);
+          covers = covers-compose (blocks z) (allowed-size z fine .some) (m .origins) (m .covers) (rest .origins) (rest .covers);
           says = λ b e. let x = m .says b e in let y = rest .says (f a b .board) (next b e) in λ i. x i ∷ y i;
           leaves = λ b e.
               rest .leaves (f a b .board) (next b e)
@@ -72,10 +72,10 @@ module _ (z : Size) (ok : allowed z ≡ true) where
 
   -- reading a chunk: what it says and which origins it has come from `decode` alone
   pub read-means : (s : List ℕ) → Means z (read z s)
-  read-means s = by (decode (blocks z) s) refl (decoded (blocks z) (allowed-size z ok .some) s)
+  read-means s = by (decode (blocks z) s) refl (decoded (blocks z) (allowed-size z fine .some) s)
     where
       is : (o : Outcome) → decode (blocks z) s ≡ o → (b : Board) → Exact z b → read z s b ≡ left (verdict s o) (effect z o b)
-      is o e b x = read-exact z ok s b x ∙ ap (λ o. left (verdict s o) (effect z o b)) e
+      is o e b x = read-exact z fine s b x ∙ ap (λ o. left (verdict s o) (effect z o b)) e
 
       by : (o : Outcome) → decode (blocks z) s ≡ o → Sound (blocks z) o → Means z (read z s)
       by (refused a) e x = nothing (read z s) a (is (refused a) e)
@@ -93,7 +93,7 @@ module _ (z : Size) (ok : allowed z ≡ true) where
   unfolding walk checked
   walk-its-size s cs e =
       let m = inTurn-means (read z) (every-all (map (λ c. c .bytes) (cs .list)) read-means) in
-      let is : (b : Board) → Exact z b → walk s b ≡ readAll z cs b = λ b x. rw (e, no-fault z ok b x) in
+      let is : (b : Board) → Exact z b → walk s b ≡ readAll z cs b = λ b x. rw (e, no-fault z fine b x) in
       record {
         said = reply (m .said) (cs .ending);
         origins = m .origins;

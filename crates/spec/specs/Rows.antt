@@ -1,0 +1,116 @@
+-- One row of the table of examples, and one test that says whether it holds. Assumes nothing.
+use Prim.Native.Nat.{ℕ, _+_, _-_}
+use mathlib.Core.List.{List, [], _∷_, _++_}
+use mathlib.Core.Bool.{Bool, true, false, _&&_}
+use lib.Dec.{eqb}
+use lib.ListN.{length, getD, replicate}
+use Rattle.spec.specs.declared.Answer.{Answer}
+use Rattle.spec.specs.declared.Size.{Size}
+use Rattle.spec.specs.Basics.{if, sameBy, same}
+use Rattle.spec.specs.Answers.{answer, checked}
+use Rattle.spec.specs.Sizes.{blocks}
+use Rattle.spec.specs.Sizes as Sizes
+use Rattle.spec.specs.Pictures.{Origin, given, held}
+use Rattle.spec.specs.Pictures as Pictures
+use Rattle.spec.specs.Maps.{fresh, unsettled, remap, freshMap, countMap}
+use Rattle.spec.specs.Flags.{upper24, lower24}
+use Rattle.spec.specs.Flags as Flags
+use Rattle.spec.specs.Chunks.{Outcome, refused, accepted, decode}
+use Rattle.spec.specs.Chunks as Chunks
+use Rattle.spec.specs.Boards.{Left, board, read, inTurn}
+use Rattle.spec.specs.Writing.{Wrote, opcodes, chunkFor, write}
+use Rattle.spec.specs.Writing as Writing
+use Rattle.spec.specs.Feeds.{Varint, bad, value, varintAt, Reply}
+use Rattle.spec.specs.Feeds as Feeds
+use Rattle.spec.specs.Calls.{Call, call, run}
+
+-- sizes are width and height in pixels
+pub data Row : Type 0 where
+  -- six flag bytes: the two 24-bit numbers
+  octet : List ℕ → ℕ → ℕ → Row
+  -- size, a starting picture with a fresh map, calls: what each says, the picture, the map and the count at the end
+  sequence : ℕ → ℕ → List ℕ → List Call → List Reply → List ℕ → List ℕ → ℕ → Row
+  -- blocks, a chunk that is accepted: the pixels that it gives the last of them
+  lastGiven : ℕ → List ℕ → List ℕ → Row
+  -- size, the lengths of the lent picture and map: what reading an empty chunk answers
+  readLengths : ℕ → ℕ → ℕ → ℕ → ℕ → Row
+  -- size, the lengths of the old and the new picture: what writing to an empty output answers
+  writeLengths : ℕ → ℕ → ℕ → ℕ → ℕ → Row
+  -- size, a map: what fresh map and count answer, the map that is left, and the count
+  maps : ℕ → ℕ → List ℕ → ℕ → List ℕ → ℕ → Row
+  -- size, old picture, new picture: the chunk; written where it just fits, with a byte behind it, and with one byte too few
+  writes : ℕ → ℕ → List ℕ → List ℕ → List ℕ → Row
+  -- origins: the opcodes of the writer's chunk
+  encodes : List Origin → List ℕ → Row
+  -- bytes that start with a number: its value and the place after it; or 12 or 13
+  varint : List ℕ → ℕ → ℕ → Row
+  noVarint : List ℕ → ℕ → Row
+
+abbrev pub size : ℕ → ℕ → Size
+size w h = record { width = w; height = h }
+
+-- n times one colour
+abbrev pub of : ℕ → ℕ → List ℕ
+of n c = replicate n c
+
+abbrev pub sameAnswer : Answer → Answer → Bool
+sameAnswer x y = eqb (x .number) (y .number) && eqb (x .place) (y .place)
+
+abbrev pub sameReply : Reply → Reply → Bool
+sameReply x y = sameBy sameAnswer (x .inside) (y .inside) && sameAnswer (x .answer) (y .answer)
+
+abbrev pub isLeft : Left (List Reply) → List Reply → List ℕ → List ℕ → ℕ → Bool
+isLeft l replies pic m n =
+    sameBy sameReply (l .said) replies && same (l .board .picture) pic && same (l .board .map) m && eqb (unsettled (l .board .map)) n
+
+abbrev pub isGiven : Origin → List ℕ → Bool
+isGiven (given px) qx = same px qx
+isGiven (held k) qx = false
+
+abbrev pub lastIs : Outcome → ℕ → List ℕ → Bool
+lastIs (refused a) n px = false
+lastIs (accepted os) n px = eqb (length os) n && isGiven (getD os (n - 1) (held 0)) px
+
+abbrev pub isWrote : Wrote → Answer → List ℕ → Bool
+isWrote w a out = sameAnswer (w .answer) a && same (w .output) out
+
+abbrev pub isVarint : Varint → ℕ → ℕ → Bool
+isVarint (bad e) v p = false
+isVarint (value x q) v p = eqb x v && eqb q p
+
+abbrev pub isBad : Varint → ℕ → Bool
+isBad (bad e) x = eqb e x
+isBad (value x q) e = false
+
+unfoldable pub holds : Row → Bool
+unfolding if checked Sizes.side Sizes.fault Pictures.place Pictures.blockOf Pictures.pixelOf Pictures.shown Pictures.paint
+    remap freshMap countMap Flags.digits Flags.upper24 Flags.lower24 Flags.flags Flags.octetBytes Flags.flagBytes
+    Chunks.put Chunks.missing Chunks.body Chunks.opcode Chunks.blocksBy Chunks.extend Chunks.stored Chunks.step Chunks.finish Chunks.loop Chunks.decode
+    read inTurn Writing.insert Writing.colours Writing.entries Writing.entryOf Writing.tabled Writing.single Writing.counting Writing.plain
+    Writing.opcodeFor Writing.alike Writing.opcodes Writing.encode Writing.difference Writing.differences Writing.emit Writing.write
+    Feeds.groups Feeds.varintAt Feeds.chunksFrom Feeds.feedOf Feeds.walk call
+holds (octet bs x y) = eqb (upper24 bs) x && eqb (lower24 bs) y
+holds (sequence w h start calls replies pic m n) =
+    isLeft (run (size w h) calls (board start (fresh (blocks (size w h))))) replies pic m n
+holds (lastGiven n s px) = lastIs (decode n s) n px
+holds (readLengths w h pixels entries e) = sameAnswer (read (size w h) [] (board (of pixels 0) (of entries 0)) .said) (answer e 0)
+holds (writeLengths w h old new e) = isWrote (write (size w h) (of old 0) (of new 0) []) (answer e 0) []
+holds (maps w h m e after n) =
+    let z = size w h in
+    let a = answer e 0 in
+    sameAnswer (freshMap z m .answer) a && same (freshMap z m .map) after
+    && sameAnswer (countMap z m .answer) a && eqb (countMap z m .unsettled) n
+holds (writes w h old new s) =
+    let z = size w h in
+    let n = length s in
+    same (chunkFor z old new) s
+    && isWrote (write z old new (of n 9)) (answer 0 n) s
+    && isWrote (write z old new (of (n + 1) 9)) (answer 0 n) (s ++ 9 ∷ [])
+    && isWrote (write z old new (of (n - 1) 9)) (answer 14 0) (of (n - 1) 9)
+holds (encodes os s) = same (opcodes 0 os) s
+holds (varint s v p) = isVarint (varintAt s 0) v p
+holds (noVarint s e) = isBad (varintAt s 0) e
+
+abbrev pub hold : List Row → Bool
+hold [] = true
+hold (x ∷ xs) = holds x && hold xs
