@@ -4,15 +4,16 @@ use mathlib.Core.Path.{_≡_, refl, ap, _∙_}
 use mathlib.Core.List.{List, [], _∷_, _++_}
 use mathlib.Core.Bool.{true}
 use Rattle.spec.specs.declared.Size.{Size}
-use Rattle.spec.specs.Answers.{ok, badVarint, feedCut, checked}
+use Rattle.spec.specs.Answers.{ok, checked}
 use Rattle.spec.specs.Sizes.{allowed, columns, lines, blocks, fault}
 use Rattle.spec.specs.Pictures.{Origin, Covers}
 use Rattle.spec.specs.Boards.{Board, Left, left, Exact, exact, paintBoard, readExact, read, inTurn}
-use Rattle.spec.specs.Feeds.{Varint, value, groups, varintAt, Chunks, chunkAt, chunksFrom}
+use Rattle.spec.specs.Feeds.{Varint, Chunks, chunkAt, chunksFrom}
 use Rattle.spec.proofs.Lists.{by-test}
 use Rattle.spec.proofs.Limits.{area, exact-true, fault-none}
 use Rattle.spec.proofs.Blocks.{length-paint}
 use Rattle.spec.proofs.Origins.{length-remap}
+use Rattle.spec.proofs.Varints.{Cut, short, Read, refused, got, read-varint}
 
 -- first xs, then ys: all that was said, and the board
 pub inTurn-append : {A R : Type 0} (f : A → Board → Left R) (xs ys : List A) (b : Board)
@@ -27,8 +28,8 @@ inTurn-append f (x ∷ xs) ys b =
 
 -- a board through origins, one a block, keeps its lengths
 pub exact-paint : (z : Size) → allowed z ≡ true → (os : List Origin) (b : Board) → Covers (blocks z) os → Exact z (paintBoard z os b)
-exact-paint z ok os b g =
-    record { picture = length-paint (columns z) (lines z) os (b .picture) ∙ area z ok; map = length-remap os (b .map) ∙ g .size }
+exact-paint z fine os b g =
+    record { picture = length-paint (columns z) (lines z) os (b .picture) ∙ area z fine; map = length-remap os (b .map) ∙ g .size }
 
 -- where size and lengths are right, neither 1 nor 2 is in the way
 pub no-fault : (z : Size) → allowed z ≡ true → (b : Board) → Exact z b → fault z (exact z b) ≡ ok
@@ -38,36 +39,15 @@ pub read-exact : (z : Size) → allowed z ≡ true → (s : List ℕ) (b : Board
 unfolding read checked
 read-exact z a s b e = rw (no-fault z a b e)
 
--- a feed number is refused with 12 or 13
-pub data Cut : ℕ → Type 0 where
-  badly : Cut badVarint
-  short : Cut feedCut
-
-pub data Read : Varint → Type 0 where
-  refused : {e : ℕ} → Cut e → Read (Varint.bad e)
-  got : {v p : ℕ} → Read (value v p)
-
-read-groups : (more scale sum : ℕ) (s : List ℕ) (at : ℕ) → Read (groups more scale sum s at)
-unfolding groups
-read-groups zero scale sum s at = refused badly
-read-groups (suc more) scale sum s at =
-    by-test Read _ (λ t. refused short) (λ t.
-    by-test Read _ (λ t. read-groups more _ _ s (at + 1)) (λ t.
-    by-test Read _ (λ t. refused badly) (λ t. got)))
-
-pub read-varint : (s : List ℕ) (at : ℕ) → Read (varintAt s at)
-unfolding varintAt
-read-varint s at = read-groups 4 1 0 s at
-
--- and so the chunks of a feed end with 0, 12 or 13
+-- the chunks of a feed end with 0, 12 or 13
 pub data Ends : ℕ → Type 0 where
   whole : Ends ok
   cut : {e : ℕ} → Cut e → Ends e
 
-ends-at : (onward : ℕ → Chunks) (s : List ℕ) (at : ℕ) {x : Varint} → ((p : ℕ) → Ends (onward p .ending .number)) → Read x
+ends-at : (onward : ℕ → Chunks) (s : List ℕ) (at : ℕ) {x : Varint} → ((p : ℕ) → Ends (onward p .ending .number)) → Read at x
     → Ends (chunkAt onward s at x .ending .number)
 ends-at onward s at h (refused c) = cut c
-ends-at onward s at h (got {v} {p}) = by-test (λ (cs : Chunks). Ends (cs .ending .number)) _ (λ t. cut short) (λ t. h (p + v))
+ends-at onward s at h (got {v} {p} l) = by-test (λ (cs : Chunks). Ends (cs .ending .number)) _ (λ t. cut short) (λ t. h (p + v))
 
 pub ends-chunks : (fuel : ℕ) (s : List ℕ) (at : ℕ) → Ends (chunksFrom fuel s at .ending .number)
 unfolding chunksFrom

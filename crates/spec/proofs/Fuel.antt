@@ -10,8 +10,8 @@ use borrow.Author.Tests.{le-ltb, lt-ltb}
 use Rattle.spec.specs.Basics.{if}
 use Rattle.spec.specs.Answers.{ok, answer}
 use Rattle.spec.specs.Chunks.{State, Step, stop, go, Outcome, step, finish, resume, loop, Head, act, fills, once, each}
-use Rattle.spec.specs.Feeds.{Varint, value, groups, varintAt, Chunks, noMore, chunkAt, chunksFrom}
-use Rattle.spec.proofs.Lists.{by-test}
+use Rattle.spec.specs.Feeds.{Varint, varintAt, Chunks, noMore, chunkAt, chunksFrom}
+use Rattle.spec.proofs.Varints.{Read, refused, got, read-varint}
 use Rattle.spec.proofs.Sound.{Checked, good, checked-head}
 
 -- a step goes on past its opcode
@@ -60,33 +60,16 @@ module _ (fuel n : ℕ) (s : List ℕ) (st : State) (h : length s ≤ fuel) wher
       by zero = unfold loop in refl
       by (suc f) = unfold loop if in rw e
 
--- a number that is read stands past its place
-pub data Past (at : ℕ) : Varint → Type 0 where
-  unread : {e : ℕ} → Past at (Varint.bad e)
-  past : {v p : ℕ} → at < p → Past at (value v p)
-
-past-groups : (more scale sum : ℕ) (s : List ℕ) (was at : ℕ) → was ≤ at → Past was (groups more scale sum s at)
-unfolding groups
-past-groups zero scale sum s was at l = unread
-past-groups (suc more) scale sum s was at l =
-    by-test (Past was) _ (λ t. unread) (λ t.
-    by-test (Past was) _ (λ t. past-groups more _ _ s was (at + 1) (omega arith)) (λ t.
-    by-test (Past was) _ (λ t. unread) (λ t. past (omega arith))))
-
-pub past-varint : (s : List ℕ) (at : ℕ) → Past at (varintAt s at)
-unfolding varintAt
-past-varint s at = past-groups 4 1 0 s at at (omega arith)
-
-same-chunk : (f g : ℕ → Chunks) (s : List ℕ) (at : ℕ) {x : Varint} → ((p : ℕ) → at < p → f p ≡ g p) → Past at x → chunkAt f s at x ≡ chunkAt g s at x
-same-chunk f g s at h unread = refl
-same-chunk f g s at h (past {v} {p} l) = rw (h (p + v) (omega arith))
+same-chunk : (f g : ℕ → Chunks) (s : List ℕ) (at : ℕ) {x : Varint} → ((p : ℕ) → at < p → f p ≡ g p) → Read at x → chunkAt f s at x ≡ chunkAt g s at x
+same-chunk f g s at h (refused c) = refl
+same-chunk f g s at h (got {v} {p} l) = rw (h (p + v) (omega arith))
 
 pub enough-chunks : (fuel : ℕ) (s : List ℕ) (at : ℕ) → length s ≤ at + fuel → chunksFrom (suc fuel) s at ≡ chunksFrom fuel s at
 unfolding chunksFrom if
 enough-chunks zero s at h = rw (le-ltb at (length s) (omega arith))
 enough-chunks (suc fuel) s at h =
     ap (λ x. if (ltb at (length s)) x (noMore (answer ok at)))
-    (same-chunk _ _ s at (λ p l. enough-chunks fuel s p (omega arith)) (past-varint s at))
+    (same-chunk _ _ s at (λ p l. enough-chunks fuel s p (omega arith)) (read-varint s at))
 
 module _ (fuel : ℕ) (s : List ℕ) (at : ℕ) (h : length s ≤ fuel) where
   pub unroll-chunks : at < length s → chunksFrom fuel s at ≡ chunkAt (λ p. chunksFrom fuel s p) s at (varintAt s at)
@@ -97,7 +80,7 @@ module _ (fuel : ℕ) (s : List ℕ) (at : ℕ) (h : length s ≤ fuel) where
       by (suc f) g =
           unfold chunksFrom if in
           rw (lt-ltb at (length s) l)
-          (same-chunk _ _ s at (λ p o. sym (enough-chunks f s p (omega arith))) (past-varint s at))
+          (same-chunk _ _ s at (λ p o. sym (enough-chunks f s p (omega arith))) (read-varint s at))
 
   pub unroll-chunks-end : length s ≤ at → chunksFrom fuel s at ≡ noMore (answer ok at)
   unroll-chunks-end l = by fuel

@@ -4,5 +4,6 @@ pub mod Blocks
 pub mod Limits
 pub mod Origins
 pub mod Sound
+pub mod Varints
 pub mod Fuel
 pub mod Boards

@@ -102,7 +102,6 @@ compose-assoc n first second third g h = map-congr (every-weaken one (h .below))
     one (given px) u = refl
     one (held j) u = getD-map (through first) second j (held 0) (held 0) (rw (g .size) u)
 
--- a fresh map through origins is the list of them written down
-
+-- of a fresh map, a held block takes its own number
 pub entry-held : (n j : ℕ) → j < n → entry (fresh n) (held j) ≡ j
 entry-held n j h = getD-from 0 n j 0 h ∙ zero-add j

@@ -1,5 +1,5 @@
 -- 01, "The house feed": numbers, the chunks of a feed, and the walk. Assumes nothing.
-use Prim.Native.Nat.{ℕ, zero, suc, _+_, _-_, _*_, _^_}
+use Prim.Native.Nat.{ℕ, zero, suc, _+_, _-_, _*_}
 use mathlib.Core.List.{List, [], _∷_, map}
 use mathlib.Core.Bool.{_&&_, _||_}
 use lib.Dec.{leb, ltb, eqb}

@@ -15,7 +15,8 @@ use Rattle.spec.specs.Writing.{Wrote, emit, write}
 use Rattle.spec.specs.Feeds.{Varint, chunksFrom, varintAt, broken, withColumns, withLines, feedOf, Reply, reply, walkFeed, walk}
 use Rattle.spec.specs.Calls.{Call, reading, walking, call}
 use Rattle.spec.proofs.Lists.{by-test, by-checked}
-use Rattle.spec.proofs.Boards.{Ends, whole, cut, badly, short, ends-chunks}
+use Rattle.spec.proofs.Varints.{badly, short}
+use Rattle.spec.proofs.Boards.{Ends, whole, cut, ends-chunks}
 
 -- a refused chunk leaves picture and map
 pub refused-read : (z : Size) (s : List ℕ) (b : Board) → read z s b .said .number ≢ ok → read z s b .board ≡ b
