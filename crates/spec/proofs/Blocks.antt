@@ -6,7 +6,7 @@ use mathlib.Core.Logic.{_≢_}
 use mathlib.Core.List.{List}
 use native.Mathlib.Decide.{ℕ-discrete}
 use native.Mathlib.Omega.{arith}
-use lib.ListN.{length, getD, set, length-map, length-set}
+use lib.ListN.{length, getD, set, replicate, length-map, length-set, getD-replicate}
 use lib.Seq.{getD-set-same, getD-set-other, ext-getD}
 use Rattle.spec.specs.Pictures.{Origin, given, held, place, blockOf, pixelOf, pixel, shown, blockAt, paint, putPixels, putBlock}
 use Rattle.spec.specs.Maps.{unchanged}
@@ -56,6 +56,12 @@ module _ (c r : ℕ) (wide : 0 < c) where
       ∙ ap (λ (l : List ℕ). getD l j 0) (h (blockOf c i) (block-below c r wide i b))
       ∙ shown-at c q (held (blockOf c i)) j hj
       ∙ ap (λ (x : ℕ). getD q x 0) at)
+
+  -- a picture of one colour shows it in every block
+  pub shown-plain : (x k i : ℕ) → k < c * r → i < 16 → getD (blockAt c (replicate (4 * c * (4 * r)) x) k) i 0 ≡ x
+  shown-plain x k i hk hi =
+      shown-at c (replicate (4 * c * (4 * r)) x) (held k) i hi
+      ∙ getD-replicate {A = ℕ} (4 * c * (4 * r)) (place c k i) x 0 (place-below c r wide k i hk hi)
 
   -- nothing painted
   pub paint-unchanged : (pic : List ℕ) → length pic ≡ 4 * c * (4 * r) → paint c r (unchanged (c * r)) pic ≡ pic

@@ -1,5 +1,5 @@
 -- Calls on boards: one thing after another, lengths, and which numbers end a walk. Assumes nothing.
-use Prim.Native.Nat.{ℕ, zero, suc, _+_}
+use Prim.Native.Nat.{ℕ, _+_}
 use mathlib.Core.Path.{_≡_, refl, ap, _∙_}
 use mathlib.Core.List.{List, [], _∷_, _++_}
 use mathlib.Core.Bool.{true}
@@ -9,6 +9,7 @@ use Rattle.spec.specs.Sizes.{allowed, columns, lines, blocks, fault}
 use Rattle.spec.specs.Pictures.{Origin, Covers}
 use Rattle.spec.specs.Boards.{Board, Left, left, Exact, exact, paintBoard, readExact, read, inTurn}
 use Rattle.spec.specs.Feeds.{Varint, Chunks, chunkAt, chunksFrom}
+use Rattle.spec.proofs.Fuel.{by-fuel}
 use Rattle.spec.proofs.Lists.{by-test}
 use Rattle.spec.proofs.Limits.{area, exact-true, fault-none}
 use Rattle.spec.proofs.Blocks.{length-paint}
@@ -31,7 +32,7 @@ pub exact-paint : (z : Size) → allowed z ≡ true → (os : List Origin) (b : 
 exact-paint z fine os b g =
     record { picture = length-paint (columns z) (lines z) os (b .picture) ∙ area z fine; map = length-remap os (b .map) ∙ g .size }
 
--- where size and lengths are right, neither 1 nor 2 is in the way
+-- the same of a board, so that reading goes straight on
 pub no-fault : (z : Size) → allowed z ≡ true → (b : Board) → Exact z b → fault z (exact z b) ≡ ok
 no-fault z a b e = fault-none z (exact z b) a (exact-true z b e)
 
@@ -51,6 +52,6 @@ ends-at onward s at h (got {v} {p} l) = by-test (λ (cs : Chunks). Ends (cs .end
 
 pub ends-chunks : (fuel : ℕ) (s : List ℕ) (at : ℕ) → Ends (chunksFrom fuel s at .ending .number)
 unfolding chunksFrom
-ends-chunks zero s at = whole
-ends-chunks (suc fuel) s at =
-    by-test (λ (cs : Chunks). Ends (cs .ending .number)) _ (λ t. ends-at _ s at (λ p. ends-chunks fuel s p) (read-varint s at)) (λ t. whole)
+ends-chunks fuel s at =
+    by-fuel _ _ _ (λ (at : ℕ). Unit {0}) (λ (cs : Chunks). Ends (cs .ending .number))
+    (λ onward at u h. ends-at onward s at (λ p. h p tt) (read-varint s at)) (λ at u. whole) fuel at tt

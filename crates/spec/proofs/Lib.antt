@@ -1,9 +1,10 @@
 pub mod Lists
+pub mod Fuel
 pub mod Places
 pub mod Blocks
 pub mod Limits
 pub mod Origins
 pub mod Sound
 pub mod Varints
-pub mod Fuel
+pub mod Loops
 pub mod Boards

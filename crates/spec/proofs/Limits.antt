@@ -67,7 +67,7 @@ area z e = let s = allowed-size z e in rw (s .width, s .height)
 pub exact-true : (z : Size) (b : Board) → Exact z b → exact z b ≡ true
 exact-true z b e = rw (eq-eqb (length (b .picture)) (pixels z) (e .picture), eq-eqb (length (b .map)) (blocks z) (e .map))
 
--- neither 1 nor 2, exactly when the size is allowed and the lengths are right
+-- where the size is allowed and the lengths are right, neither 1 nor 2 is given
 pub fault-none : (z : Size) (t : Bool) → allowed z ≡ true → t ≡ true → fault z t ≡ ok
 unfolding fault if
 fault-none z t a e = rw (a, e)

@@ -9,6 +9,7 @@ use Rattle.spec.specs.declared.Answer.{Answer}
 use Rattle.spec.specs.Basics.{from, Every, none, also}
 use Rattle.spec.specs.Pictures.{Origin, held, Below, Covers}
 use Rattle.spec.specs.Chunks.{Head, runs, once, each, body, opcode, act, fills, Kind, skip, fill, whole, copy, store, named, State, Step, stop, go, Outcome, refused, accepted, copies, blocksBy, extend, step, finish, resume, loop, decode}
+use Rattle.spec.proofs.Fuel.{by-fuel}
 use Rattle.spec.proofs.Lists.{by-test, every-append, every-getD, every-map, every-all, every-from, length-from}
 
 pub data Sound (n : ℕ) : Outcome → Type 0 where
@@ -96,9 +97,9 @@ module _ (n : ℕ) (some : 0 < n) where
 
   looped : (fuel : ℕ) (s : List ℕ) (st : State) → Partial n (st .made) → Sound n (loop fuel n s st)
   unfolding loop
-  looped zero s st g = finished s st g
-  looped (suc fuel) s st g =
-      by-test (Sound n) _ (λ t. resumed _ (st .at) (λ st′ g′. looped fuel s st′ g′) (stepped s st (g .below))) (λ t. finished s st g)
+  looped fuel s st g =
+      by-fuel _ _ _ (λ (st : State). Partial n (st .made)) (Sound n)
+      (λ onward st g onto. resumed onward (st .at) onto (stepped s st (g .below))) (finished s) fuel st g
 
   pub decoded : (s : List ℕ) → Sound n (decode n s)
   unfolding decode

@@ -10,6 +10,14 @@ unfoldable pub if {ℓ} : {A : Type ℓ} → Bool → A → A → A
 if true x y = x
 if false x y = y
 
+-- turn after turn while the test holds, at most so many of them, and then `finish`. Where each turn leaves less to do, the fuel never
+-- matters once there is enough (proofs/Fuel)
+unfoldable pub fuelled : {S R : Type 0} → (S → Bool) → ((S → R) → S → R) → (S → R) → ℕ → S → R
+fuelled test turn finish zero st = finish st
+fuelled test turn finish (suc fuel) st =
+    let next = turn (λ st′. fuelled test turn finish fuel st′) st in
+    if (test st) next (finish st)
+
 -- the numbers a, a + 1, .., m of them
 abbrev pub from : ℕ → ℕ → List ℕ
 from a zero = []

@@ -6,7 +6,7 @@ use mathlib.Core.Bool.{Bool, false, not, _&&_}
 use lib.Dec.{leb, ltb, eqb}
 use lib.ListN.{length, getD, set, replicate}
 use Rattle.spec.specs.declared.Answer.{Answer}
-use Rattle.spec.specs.Basics.{if, from, part}
+use Rattle.spec.specs.Basics.{if, fuelled, from, part}
 use Rattle.spec.specs.Answers.{ok, chunkShort, lengthDiffers, blocksRemain, opcodeCut, opcodeUnknown, noneBefore, pastLastBlock, entryEmpty, bytesFollow, answer}
 use Rattle.spec.specs.Pictures.{Origin, given, held}
 use Rattle.spec.specs.Flags.{number, flags, chosen}
@@ -206,12 +206,12 @@ abbrev pub resume : (State → Outcome) → ℕ → Step → Outcome
 resume onward at (stop e) = refused (answer e at)
 resume onward at (go st) = onward st
 
--- "Then come opcodes until every block has had its turn". Each opcode takes a byte, so the chunk's length is fuel enough (proofs/Fuel)
+-- "Then come opcodes until every block has had its turn". Each takes a byte, so the chunk's length is fuel enough
+abbrev pub goesOn : ℕ → List ℕ → State → Bool
+goesOn n s st = ltb (length (st .made)) n && ltb (st .at) (length s)
+
 unfoldable pub loop : ℕ → ℕ → List ℕ → State → Outcome
-loop zero n s st = finish n s st
-loop (suc fuel) n s st =
-    let next = resume (λ st′. loop fuel n s st′) (st .at) (step n s st) in
-    if (ltb (length (st .made)) n && ltb (st .at) (length s)) next (finish n s st)
+loop fuel n s st = fuelled (goesOn n s) (λ onward st. resume onward (st .at) (step n s st)) (finish n s) fuel st
 
 -- "Byte 0 may be anything. Bytes 1 to 3, highest first, are the whole chunk's length, these four bytes included"
 unfoldable pub decode : ℕ → List ℕ → Outcome

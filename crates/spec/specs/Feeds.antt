@@ -6,7 +6,7 @@ use lib.Dec.{leb, ltb, eqb}
 use lib.ListN.{length, getD}
 use Rattle.spec.specs.declared.Answer.{Answer}
 use Rattle.spec.specs.declared.Size.{Size}
-use Rattle.spec.specs.Basics.{if, part}
+use Rattle.spec.specs.Basics.{if, fuelled, part}
 use Rattle.spec.specs.Answers.{ok, badVarint, feedCut, answer, checked}
 use Rattle.spec.specs.Sizes.{sizeOf, fault}
 use Rattle.spec.specs.Boards.{Board, Left, left, exact, read, inTurn}
@@ -59,12 +59,10 @@ chunkAt onward s at (value n p) =
     let rest = onward (p + n) in
     if (ltb (length s) (p + n)) (noMore (answer feedCut p)) (record { list = chunk ∷ rest .list; ending = rest .ending })
 
--- "then for each chunk its length and the chunk". Each takes a byte, so the feed's length is fuel enough (proofs/Fuel)
+-- "then for each chunk its length and the chunk". Each takes a byte, so the feed's length is fuel enough
 unfoldable pub chunksFrom : ℕ → List ℕ → ℕ → Chunks
-chunksFrom zero s at = noMore (answer ok at)
-chunksFrom (suc fuel) s at =
-    let next = chunkAt (λ p. chunksFrom fuel s p) s at (varintAt s at) in
-    if (ltb at (length s)) next (noMore (answer ok at))
+chunksFrom fuel s at =
+    fuelled (λ at. ltb at (length s)) (λ onward at. chunkAt onward s at (varintAt s at)) (λ at. noMore (answer ok at)) fuel at
 
 -- "A feed is width/4, height/4, then": a size number that fails, or the size and the chunks
 pub data Feed : Type 0 where

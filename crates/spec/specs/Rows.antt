@@ -6,7 +6,7 @@ use lib.Dec.{eqb}
 use lib.ListN.{length, getD, replicate}
 use Rattle.spec.specs.declared.Answer.{Answer}
 use Rattle.spec.specs.declared.Size.{Size}
-use Rattle.spec.specs.Basics.{if, sameBy, same}
+use Rattle.spec.specs.Basics.{if, fuelled, sameBy, same}
 use Rattle.spec.specs.Answers.{answer, checked}
 use Rattle.spec.specs.Sizes.{blocks}
 use Rattle.spec.specs.Sizes as Sizes
@@ -83,7 +83,7 @@ isBad (bad e) x = eqb e x
 isBad (value x q) e = false
 
 unfoldable pub holds : Row → Bool
-unfolding if checked Sizes.side Sizes.fault Pictures.place Pictures.blockOf Pictures.pixelOf Pictures.shown Pictures.paint
+unfolding if fuelled checked Sizes.side Sizes.fault Pictures.place Pictures.blockOf Pictures.pixelOf Pictures.shown Pictures.paint
     remap freshMap countMap Flags.digits Flags.upper24 Flags.lower24 Flags.flags Flags.octetBytes Flags.flagBytes
     Chunks.put Chunks.missing Chunks.body Chunks.opcode Chunks.blocksBy Chunks.extend Chunks.stored Chunks.step Chunks.finish Chunks.loop Chunks.decode
     read inTurn Writing.insert Writing.colours Writing.entries Writing.entryOf Writing.tabled Writing.single Writing.counting Writing.plain

@@ -7,20 +7,19 @@ use mathlib.Core.List.{List, _++_}
 use mathlib.Core.Bool.{true}
 use native.Mathlib.Omega.{arith}
 use lib.Dec.{eqb}
-use lib.ListN.{length, getD, replicate, length-replicate, getD-replicate}
+use lib.ListN.{length, getD, replicate, length-replicate}
 use borrow.Author.Tests.{eq-eqb}
 use Rattle.spec.specs.declared.Size.{Size}
 use Rattle.spec.specs.Basics.{Every}
 use Rattle.spec.specs.Answers.{ok, answer, checked}
 use Rattle.spec.specs.Sizes.{allowed, pixels, columns, lines, blocks}
-use Rattle.spec.specs.Pictures.{Origin, given, held, Below, place, pixel, shown, blockAt}
+use Rattle.spec.specs.Pictures.{Origin, given, held, Below, shown, blockAt}
 use Rattle.spec.specs.Maps.{settled, entry, fresh, unsettled, mapLeft, mapFault, freshMap, countMap}
 use Rattle.spec.specs.Boards.{Board, board, left, Exact}
 use Rattle.spec.specs.Calls.{Call, call, run}
 use Rattle.spec.proofs.Lists.{every-replicate, length-from}
 use Rattle.spec.proofs.Limits.{allowed-size, area, blocks-below-mark, fault-none}
-use Rattle.spec.proofs.Places.{place-below}
-use Rattle.spec.proofs.Blocks.{painted, shown-at}
+use Rattle.spec.proofs.Blocks.{painted, shown-plain}
 use Rattle.spec.proofs.Origins.{remap-at, below-at, entry-held}
 use Rattle.spec.proofs.Boards.{inTurn-append}
 use Rattle.trust.specs.Means.{Means}
@@ -55,9 +54,7 @@ module _ (z : Size) (fine : allowed z ≡ true) where
 
   -- a held block's first pixel is that of the starting picture
   first-pixel : (j x : ℕ) → j < blocks z → getD (blockAt (columns z) (replicate (pixels z) x) j) 0 0 ≡ x
-  first-pixel j x h =
-      let q : place (columns z) j 0 < pixels z = rw (area z fine) at (place-below (columns z) (lines z) (allowed-size z fine .wide) j 0 h (omega arith)) in
-      shown-at (columns z) (replicate (pixels z) x) (held j) 0 (omega arith) ∙ getD-replicate {A = ℕ} (pixels z) (place (columns z) j 0) x 0 q
+  first-pixel j x h = rw (area z fine) at (shown-plain (columns z) (lines z) (allowed-size z fine .wide) x j 0 h (omega arith))
 
   settle : (o : Origin) → Below (blocks z) o
       → (entry (fresh (blocks z)) o ≡ settled) ↔ ((r s : List ℕ) → IsPicture z r → IsPicture z s → shown (columns z) r o ≡ shown (columns z) s o)
