@@ -1,7 +1,7 @@
 -- What an allowed size is good for, and the checks that come first. Assumes nothing.
 use Prim.Native.Nat.{ℕ, _*_, _/_, _%_, _<_, _≤_}
-use mathlib.Core.Path.{_≡_}
-use mathlib.Core.Bool.{Bool, true, _&&_, and-eq-true-iff}
+use mathlib.Core.Path.{_≡_, refl}
+use mathlib.Core.Bool.{Bool, true, false, _&&_, and-eq-true-iff}
 use native.Mathlib.Nat.{mul-le-mul, mul-pos}
 use native.Mathlib.Omega.{arith}
 use lib.Dec.{eqb, leb}
@@ -9,7 +9,7 @@ use lib.ListN.{length}
 use borrow.Author.Tests.{eq-eqb, eqb-true, leb-true}
 use Rattle.spec.specs.declared.Size.{Size}
 use Rattle.spec.specs.Basics.{if}
-use Rattle.spec.specs.Answers.{ok}
+use Rattle.spec.specs.Answers.{ok, badSize, badLength}
 use Rattle.spec.specs.Sizes.{side, maxWidth, maxHeight, maxColumns, maxLines, maxBlocks, maxPixels, allowed, pixels, columns, lines, blocks, fault}
 use Rattle.spec.specs.Maps.{settled}
 use Rattle.spec.specs.Boards.{Board, Exact, exact}
@@ -67,7 +67,25 @@ area z e = let s = allowed-size z e in rw (s .width, s .height)
 pub exact-true : (z : Size) (b : Board) → Exact z b → exact z b ≡ true
 exact-true z b e = rw (eq-eqb (length (b .picture)) (pixels z) (e .picture), eq-eqb (length (b .map)) (blocks z) (e .map))
 
--- where the size is allowed and the lengths are right, neither 1 nor 2 is given
+-- 1 and 2, and where the size is allowed and the lengths are right, neither
+pub fault-size : (z : Size) (t : Bool) → allowed z ≡ false → fault z t ≡ badSize
+unfolding fault if
+fault-size z t a = rw a
+
+pub fault-length : (z : Size) (t : Bool) → allowed z ≡ true → t ≡ false → fault z t ≡ badLength
+unfolding fault if
+fault-length z t a e = rw (a, e)
+
 pub fault-none : (z : Size) (t : Bool) → allowed z ≡ true → t ≡ true → fault z t ≡ ok
 unfolding fault if
 fault-none z t a e = rw (a, e)
+
+-- the other way round
+pub no-fault-both : (z : Size) (t : Bool) → fault z t ≡ ok → (allowed z ≡ true) × (t ≡ true)
+unfolding fault
+no-fault-both z t e = by (allowed z) t e
+  where
+    by : (a b : Bool) → if a (if b ok badLength) badSize ≡ ok → (a ≡ true) × (b ≡ true)
+    by true true e = (refl, refl)
+    by true false e = unfold if in absurd (omega (arith, e))
+    by false b e = unfold if in absurd (omega (arith, e))

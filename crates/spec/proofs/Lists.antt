@@ -1,11 +1,12 @@
 -- Laws of choices, of lists, and of `from` and `Every`. Assumes nothing.
 use Prim.Native.Nat.{ℕ, zero, suc, _+_, _<_, _≤_}
 use mathlib.Core.Path.{_≡_, refl, sym, ap, _∙_}
-use mathlib.Core.List.{List, [], _∷_, _++_, map}
+use mathlib.Core.Logic.{_≢_}
+use mathlib.Core.List.{List, [], _∷_, _++_, map, map-append}
 use mathlib.Core.Bool.{Bool, true, false}
-use native.Mathlib.Nat.{le-of-suc-le-suc, not-suc-le-zero, add-zero, zero-add}
+use native.Mathlib.Nat.{le-of-suc-le-suc, not-suc-le-zero, add-zero, zero-add, suc-add, add-suc}
 use native.Mathlib.Omega.{arith}
-use lib.ListN.{length, getD, replicate}
+use lib.ListN.{length, getD, set, replicate}
 use Rattle.spec.specs.declared.Answer.{Answer}
 use Rattle.spec.specs.Answers.{answer, checked}
 use Rattle.spec.specs.Basics.{if, from, Every, none, also}
@@ -21,6 +22,16 @@ pub by-checked : {A : Type 0} (P : A → Type 0) (n : ℕ) {refuse : Answer → 
 unfolding checked
 by-checked P zero f g = g
 by-checked P (suc n) f g = f (answer (suc n) 0)
+
+-- where the number is known
+pub checked-none : {A : Type 0} (n : ℕ) (refuse : Answer → A) (go : A) → n ≡ 0 → checked n refuse go ≡ go
+unfolding checked
+checked-none n refuse go e = rw e
+
+pub checked-refused : {A : Type 0} (n : ℕ) (refuse : Answer → A) (go : A) → n ≢ 0 → checked n refuse go ≡ refuse (answer n 0)
+unfolding checked
+checked-refused zero refuse go h = absurd (h refl)
+checked-refused (suc n) refuse go h = refl
 
 module _ {ℓ} {A : Type ℓ} {P : A → Type 0} where
   pub every-append : {l l′ : List A} → Every P l → Every P l′ → Every P (l ++ l′)
@@ -75,3 +86,25 @@ map-congr (also h e) = let t = map-congr e in λ i. h i ∷ t i
 pub getD-rule {ℓ} : {A : Type ℓ} (f : ℕ → A) (n p : ℕ) (d : A) → p < n → getD (map f (from 0 n)) p d ≡ f p
 getD-rule f n p d h =
     getD-map f (from 0 n) p d 0 (rw length-from h) ∙ ap f (getD-from 0 n p 0 h ∙ zero-add p)
+
+pub map-set : {A B : Type 0} (f : A → B) (l : List A) (i : ℕ) (a : A) → map f (set l i a) ≡ set (map f l) i (f a)
+map-set f [] i a = refl
+map-set f (x ∷ l) zero a = refl
+map-set f (x ∷ l) (suc i) a = ap (λ t. f x ∷ t) (map-set f l i a)
+
+pub every-set : {A : Type 0} {P : A → Type 0} {l : List A} (i : ℕ) (a : A) → Every P l → P a → Every P (set l i a)
+every-set i a none h = none
+every-set zero a (also p e) h = also h e
+every-set (suc i) a (also p e) h = also p (every-set i a e h)
+
+-- one number more, at the end
+pub from-more : (a m : ℕ) → from a (suc m) ≡ from a m ++ (a + m) ∷ []
+from-more a zero = rw add-zero
+from-more a (suc m) = ap (λ (l : List ℕ). a ∷ l) (from-more (suc a) m ∙ rw (suc-add a m, add-suc a m))
+
+pub from-zero-more : (m : ℕ) → from 0 (suc m) ≡ from 0 m ++ m ∷ []
+from-zero-more m = from-more 0 m ∙ rw (zero-add m)
+
+-- a list given by a rule, with one element more
+pub rule-more {ℓ} : {A : Type ℓ} (f : ℕ → A) (m : ℕ) → map f (from 0 (suc m)) ≡ map f (from 0 m) ++ f m ∷ []
+rule-more f m = ap (map f) (from-zero-more m) ∙ map-append f (from 0 m) (m ∷ [])

@@ -8,8 +8,9 @@ use borrow.Author.Tests.{ltb-false}
 use Rattle.spec.specs.declared.Answer.{Answer}
 use Rattle.spec.specs.Basics.{from, Every, none, also}
 use Rattle.spec.specs.Pictures.{Origin, held, Below, Covers}
-use Rattle.spec.specs.Chunks.{Head, runs, once, each, body, opcode, act, fills, Kind, skip, fill, whole, copy, store, named, State, Step, stop, go, Outcome, refused, accepted, copies, blocksBy, extend, step, finish, resume, loop, decode}
+use Rattle.spec.specs.Chunks.{Head, runs, once, each, opcode, act, fills, Kind, skip, fill, whole, copy, store, named, State, Step, stop, go, Outcome, refused, accepted, copies, blocksBy, extend, step, finish, resume, loop, decode}
 use Rattle.spec.proofs.Fuel.{by-fuel}
+use Rattle.spec.proofs.Heads.{Known, known-head, body-after}
 use Rattle.spec.proofs.Lists.{by-test, every-append, every-getD, every-map, every-all, every-from, length-from}
 
 pub data Sound (n : ℕ) : Outcome → Type 0 where
@@ -30,23 +31,12 @@ pub data Checked (n : ℕ) (s : List ℕ) (at k : ℕ) : Head → Type 0 where
   bad : {e : ℕ} → Checked n s at k (Head.bad e)
   good : {u : Kind} {m b : ℕ} → k + m ≤ n → (at < b) × (b + once u + each u * m ≤ length s) → Checked n s at k (runs u m b)
 
-checked-body : (n : ℕ) (s : List ℕ) (was k : ℕ) (filled : List ℕ) (u count at : ℕ) → was < at → Checked n s was k (body n s k filled u count at)
-unfolding body
-checked-body n s was k filled u count at l =
-    by-test (Checked n s was k) _ (λ t. bad) (λ t.
-    by-test (Checked n s was k) _ (λ t. bad) (λ room.
-    by-test (Checked n s was k) _ (λ t. bad) (λ t.
-    by-test (Checked n s was k) _ (λ t. bad) (λ t.
-    by-test (Checked n s was k) _ (λ t. bad) (λ end.
-    good (ltb-false _ _ room) (l, ltb-false _ _ end))))))
+checked : {n : ℕ} {s : List ℕ} {at k : ℕ} {filled : List ℕ} {u count b : ℕ} {x : Head} → at < b → Known n s k filled u count b x → Checked n s at k x
+checked l Known.bad = bad
+checked l (Known.good fit) = good (fit .within) (l, fit .room)
 
 pub checked-head : (n : ℕ) (s : List ℕ) (at k : ℕ) (filled : List ℕ) → Checked n s at k (opcode n s at k filled)
-unfolding opcode
-checked-head n s at k filled =
-    by-test (Checked n s at k) _ (λ t. bad) (λ t.
-    by-test (Checked n s at k) _
-    (λ t. by-test (Checked n s at k) _ (λ t. bad) (λ t. checked-body n s at k filled _ _ (at + 2) (omega arith)))
-    (λ t. checked-body n s at k filled _ _ (at + 1) (omega arith)))
+checked-head n s at k filled = checked (body-after s at) (known-head n s at k filled)
 
 module _ (n : ℕ) (some : 0 < n) where
   appended : (made new : List Origin) (m : ℕ) → Every (Below n) made → length made + m ≤ n → length new ≡ m → Every (Below n) new → Partial n (made ++ new)

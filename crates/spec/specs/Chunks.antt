@@ -144,14 +144,21 @@ body n s k filled u count at =
     (if (missing filled (kindOf u) (getD s at 0)) (bad entryEmpty)
     (if (ltb (length s) (rest + each (kindOf u) * m)) (bad opcodeCut) (runs (kindOf u) m at)))))
 
--- the opcode at s[at]: "Upper half-byte first". "7, count byte (6)", then the above
+-- the opcode at s[at], "Upper half-byte first": the half-byte, the count, and the place after it
+abbrev pub upperAt : List ℕ → ℕ → ℕ
+upperAt s at = getD s at 0 / 16
+
+unfoldable pub countAt : List ℕ → ℕ → ℕ
+countAt s at = if (counted (upperAt s at)) (1 + getD s (at + 1) 0) (1 + getD s at 0 % 16)
+
+unfoldable pub bodyAt : List ℕ → ℕ → ℕ
+bodyAt s at = if (counted (upperAt s at)) (at + 2) (at + 1)
+
+-- its head: "7, count byte (6)", then the above
 unfoldable pub opcode : ℕ → List ℕ → ℕ → ℕ → List ℕ → Head
 opcode n s at k filled =
-    let b = getD s at 0 in
-    if (leb 15 (b / 16)) (bad opcodeUnknown)
-    (if (counted (b / 16))
-    (if (ltb (length s) (at + 2)) (bad opcodeCut) (body n s k filled (b / 16) (getD s (at + 1) 0 + 1) (at + 2)))
-    (body n s k filled (b / 16) (b % 16 + 1) (at + 1)))
+    if (leb 15 (upperAt s at)) (bad opcodeUnknown)
+    (if (ltb (length s) (bodyAt s at)) (bad opcodeCut) (body n s k filled (upperAt s at) (countAt s at) (bodyAt s at)))
 
 -- m blocks more, each with the origin of the block d before it: "Copies work block by block in order, on the picture as made so far"
 abbrev pub copies : ℕ → ℕ → List Origin → List Origin

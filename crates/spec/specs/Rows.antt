@@ -85,7 +85,7 @@ isBad (value x q) e = false
 unfoldable pub holds : Row → Bool
 unfolding if fuelled checked Sizes.side Sizes.fault Pictures.place Pictures.blockOf Pictures.pixelOf Pictures.shown Pictures.paint
     remap freshMap countMap Flags.digits Flags.upper24 Flags.lower24 Flags.flags Flags.octetBytes Flags.flagBytes
-    Chunks.put Chunks.missing Chunks.body Chunks.opcode Chunks.blocksBy Chunks.extend Chunks.stored Chunks.step Chunks.finish Chunks.loop Chunks.decode
+    Chunks.put Chunks.missing Chunks.body Chunks.countAt Chunks.bodyAt Chunks.opcode Chunks.blocksBy Chunks.extend Chunks.stored Chunks.step Chunks.finish Chunks.loop Chunks.decode
     read inTurn Writing.insert Writing.colours Writing.entries Writing.entryOf Writing.tabled Writing.single Writing.counting Writing.plain
     Writing.opcodeFor Writing.alike Writing.opcodes Writing.encode Writing.difference Writing.differences Writing.emit Writing.write
     Feeds.groups Feeds.varintAt Feeds.chunksFrom Feeds.feedOf Feeds.walk call

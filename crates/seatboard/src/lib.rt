@@ -1,0 +1,40 @@
+// What other programs call, from C or Rust: the functions of the library under one prefix, and no more. Each promises what the function
+// behind it promises, for all inputs.
+use spec::Answer;
+use spec::Count;
+use spec::Size;
+ghost use mathlib.Core.Path.{_≡_};
+ghost use Rattle.spec.specs.Boards.{board, read};
+ghost use Rattle.spec.specs.Maps.{freshMap, countMap};
+
+// Makes a fresh map.
+#[no_mangle]
+pub extern "C" fn seatboard_fresh_map(size: Size, map: &mut [u16]) -> Answer
+    ensures { λ r. ⌜ r ≡ freshMap size (now (map .entry)) .answer ⌝ }
+    ensures { λ _. ⌜ now (map .exit) ≡ freshMap size (now (map .entry)) .map ⌝ }
+{
+    board_map::fresh_map(size, map)
+}
+
+// Counts the entries of a map that are not settled.
+#[no_mangle]
+pub extern "C" fn seatboard_count(size: Size, map: &[u16]) -> Count
+    ensures { λ r. ⌜ r ≡ countMap size (now (map .entry)) ⌝ }
+{
+    board_map::count_unsettled(size, map)
+}
+
+// Reads a chunk over a lent picture and map.
+#[no_mangle]
+pub extern "C" fn seatboard_read_chunk(
+    size: Size,
+    chunk: &[u8],
+    picture: &mut [u8],
+    map: &mut [u16],
+) -> Answer
+    ensures { λ r. ⌜ r ≡ read size (now (chunk .entry)) (board (now (picture .entry)) (now (map .entry))) .said ⌝ }
+    ensures { λ _. ⌜ now (picture .exit) ≡ read size (now (chunk .entry)) (board (now (picture .entry)) (now (map .entry))) .board .picture ⌝ }
+    ensures { λ _. ⌜ now (map .exit) ≡ read size (now (chunk .entry)) (board (now (picture .entry)) (now (map .entry))) .board .map ⌝ }
+{
+    smc::read_chunk(size, chunk, picture, map)
+}

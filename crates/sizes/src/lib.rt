@@ -1,0 +1,56 @@
+// Which sizes are allowed, and the two refusals that every call looks for first. Anyone may call these with any numbers.
+use spec::Answer;
+use spec::Size;
+ghost use mathlib.Core.Path.{_≡_};
+ghost use mathlib.Core.Bool.{_&&_};
+ghost use lib.Dec.{eqb};
+ghost use Rattle.spec.specs.Sizes.{side, allowed, pixels, blocks, fault};
+
+// Whether a picture's side may have this length, with `most` as its limit.
+fn is_side(most: usize, length: usize) -> bool
+    ensures { λ r. ⌜ r ≡ side most length ⌝ }
+{
+    if length % 4 != 0 {
+        return false;
+    }
+    if length < 4 {
+        return false;
+    }
+    length <= most
+}
+
+// Whether a picture may have this size.
+pub fn is_allowed(size: Size) -> bool
+    ensures { λ r. ⌜ r ≡ allowed size ⌝ }
+{
+    if is_side(Size::MAX_WIDTH, size.width) {
+        return is_side(Size::MAX_HEIGHT, size.height);
+    }
+    false
+}
+
+// 1, or 2 for a map of so many entries, or 0.
+pub fn map_fault(size: Size, entries: usize) -> u8
+    ensures { λ r. ⌜ r ≡ fault size (eqb entries (blocks size)) ⌝ }
+{
+    if is_allowed(size) {
+        if entries == size.width / 4 * (size.height / 4) {
+            return Answer::OK;
+        }
+        return Answer::BAD_LENGTH;
+    }
+    Answer::BAD_SIZE
+}
+
+// 1, or 2 for a picture of so many bytes and a map of so many entries, or 0.
+pub fn board_fault(size: Size, bytes: usize, entries: usize) -> u8
+    ensures { λ r. ⌜ r ≡ fault size (eqb bytes (pixels size) && eqb entries (blocks size)) ⌝ }
+{
+    if is_allowed(size) {
+        if bytes == size.width * size.height {
+            return map_fault(size, entries);
+        }
+        return Answer::BAD_LENGTH;
+    }
+    Answer::BAD_SIZE
+}

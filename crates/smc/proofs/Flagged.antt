@@ -1,0 +1,74 @@
+-- A block's pixels by its flags, row by row. Assumes nothing.
+use Prim.Native.Nat.{ℕ, _+_, _*_, _/_, _%_, _<_, _≤_}
+use mathlib.Core.Path.{_≡_, sym}
+use mathlib.Core.List.{List, [], _∷_, _++_, map-append}
+use native.Mathlib.Nat.{add-zero}
+use native.Mathlib.Omega.{arith}
+use lib.ListN.{length, getD}
+use Rattle.spec.specs.Basics.{part}
+use Rattle.spec.specs.Flags.{digits, flags, chosen}
+use Rattle.spec.proofs.Parts.{part-at, part-listed}
+use Rattle.spec.proofs.Digits.{pair-flags, quad-flags, octet-flags}
+use Rattle.smc.proofs.Rowwise.{Four, four}
+
+-- the colours of four rows of flags, and of one
+pub chosen-rows : (cs a b c d ds : List ℕ) → ds ≡ a ++ b ++ c ++ d → chosen ds cs ≡ chosen a cs ++ chosen b cs ++ chosen c cs ++ chosen d cs
+chosen-rows cs a b c d ds e =
+    let f : ℕ → ℕ = λ i. getD cs i 0 in
+    rw (e, map-append f (a ++ b ++ c) d, map-append f (a ++ b) c, map-append f a b)
+
+pub four-chosen : (bits x : ℕ) (cs : List ℕ) → Four (chosen (digits bits 4 x) cs)
+unfolding digits
+four-chosen bits x cs = four
+
+pub quad-row : (t : List ℕ) (e f : ℕ) → f < 256
+    → getD t (e + f / 64) 0 ∷ getD t (e + f / 16 % 4) 0 ∷ getD t (e + f / 4 % 4) 0 ∷ getD t (e + f % 4) 0 ∷ [] ≡ chosen (digits 2 4 f) (part t e 4)
+unfolding digits
+quad-row t e f h =
+    let q0 : f / 64 % 4 ≡ f / 64 = omega arith in
+    let q3 : f / 1 % 4 ≡ f % 4 = omega arith in
+    rw (q0, q3, part-at t e 4 (f / 64) 0 (omega arith), part-at t e 4 (f / 16 % 4) 0 (omega arith), part-at t e 4 (f / 4 % 4) 0 (omega arith), part-at t e 4 (f % 4) 0 (omega arith))
+
+pub octet-row : (t : List ℕ) (e f g : ℕ) → f < 256 → g < 16
+    → getD t (e + f / 32) 0 ∷ getD t (e + f / 4 % 8) 0 ∷ getD t (e + (f % 4 * 2 + g / 8)) 0 ∷ getD t (e + g % 8) 0 ∷ []
+    ≡ chosen (digits 3 4 (f * 16 + g)) (part t e 8)
+unfolding digits
+octet-row t e f g hf hg =
+    let q0 : (f * 16 + g) / 512 % 8 ≡ f / 32 = omega arith in
+    let q1 : (f * 16 + g) / 64 % 8 ≡ f / 4 % 8 = omega arith in
+    let q2 : (f * 16 + g) / 8 % 8 ≡ f % 4 * 2 + g / 8 = omega arith in
+    let q3 : (f * 16 + g) / 1 % 8 ≡ g % 8 = omega arith in
+    rw (q0, q1, q2, q3, part-at t e 8 (f / 32) 0 (omega arith), part-at t e 8 (f / 4 % 8) 0 (omega arith), part-at t e 8 (f % 4 * 2 + g / 8) 0 (omega arith), part-at t e 8 (g % 8) 0 (omega arith))
+
+-- for every six flag bytes: rows by a byte and a half-byte each name what the two 24-bit numbers name
+pub octet-rows : (cs : List ℕ) (a b c d e f : ℕ) → b < 256 → c < 256 → d < 256 → f < 256
+    → chosen (digits 3 4 (a * 16 + b / 16)) cs
+    ++ chosen (digits 3 4 (c * 16 + d / 16)) cs
+    ++ chosen (digits 3 4 (e * 16 + f / 16)) cs
+    ++ chosen (digits 3 4 ((b % 16 * 16 + d % 16) * 16 + f % 16)) cs
+    ≡ chosen (flags 3 (a ∷ b ∷ c ∷ d ∷ e ∷ f ∷ [])) cs
+octet-rows cs a b c d e f hb hc hd hf =
+    sym (chosen-rows cs (digits 3 4 (a * 16 + b / 16)) (digits 3 4 (c * 16 + d / 16)) (digits 3 4 (e * 16 + f / 16))
+    (digits 3 4 ((b % 16 * 16 + d % 16) * 16 + f % 16)) _ (octet-flags a b c d e f hb hc hd hf))
+
+pub pair-rows : (cs : List ℕ) (f g : ℕ) → g < 256
+    → chosen (digits 1 4 (f / 16)) cs ++ chosen (digits 1 4 (f % 16)) cs ++ chosen (digits 1 4 (g / 16)) cs ++ chosen (digits 1 4 (g % 16)) cs
+    ≡ chosen (flags 1 (f ∷ g ∷ [])) cs
+pair-rows cs f g hg =
+    sym (chosen-rows cs (digits 1 4 (f / 16)) (digits 1 4 (f % 16)) (digits 1 4 (g / 16)) (digits 1 4 (g % 16)) _ (pair-flags f g hg))
+
+pub quad-rows : (cs : List ℕ) (f g h k : ℕ) → g < 256 → h < 256 → k < 256
+    → chosen (digits 2 4 f) cs ++ chosen (digits 2 4 g) cs ++ chosen (digits 2 4 h) cs ++ chosen (digits 2 4 k) cs ≡ chosen (flags 2 (f ∷ g ∷ h ∷ k ∷ [])) cs
+quad-rows cs f g h k hg hh hk =
+    sym (chosen-rows cs (digits 2 4 f) (digits 2 4 g) (digits 2 4 h) (digits 2 4 k) _ (quad-flags f g h k hg hh hk))
+
+-- a block's flag bytes, one by one
+pub two-bytes : (s : List ℕ) (q : ℕ) → q + 2 ≤ length s → getD s q 0 ∷ getD s (q + 1) 0 ∷ [] ≡ part s q 2
+two-bytes s q h = rw (part-listed s q 2 h, add-zero q)
+
+pub four-bytes : (s : List ℕ) (q : ℕ) → q + 4 ≤ length s → getD s q 0 ∷ getD s (q + 1) 0 ∷ getD s (q + 2) 0 ∷ getD s (q + 3) 0 ∷ [] ≡ part s q 4
+four-bytes s q h = rw (part-listed s q 4 h, add-zero q)
+
+pub six-bytes : (s : List ℕ) (q : ℕ) → q + 6 ≤ length s
+    → getD s q 0 ∷ getD s (q + 1) 0 ∷ getD s (q + 2) 0 ∷ getD s (q + 3) 0 ∷ getD s (q + 4) 0 ∷ getD s (q + 5) 0 ∷ [] ≡ part s q 6
+six-bytes s q h = rw (part-listed s q 6 h, add-zero q)

@@ -1,0 +1,16 @@
+pub mod Rowwise
+pub mod Flagged
+pub mod Leads
+pub mod Counting
+pub mod Filling
+pub mod Ways
+pub mod Behind
+pub mod Factors
+pub mod Held
+pub mod Runwise
+pub mod Showing
+pub mod Making
+pub mod Opcodes
+pub mod Turning
+pub mod Going
+pub mod Reading

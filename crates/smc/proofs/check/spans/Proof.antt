@@ -1,0 +1,13 @@
+use Rattle.smc.specs.Checking.{spanOf}
+use Rattle.spec.proofs.Computed.{agree-at}
+use Rattle.spec.specs.Basics.{if}
+use mathlib.Core.Path.{refl}
+use Rattle.smc.proofs.check.spans.Statement.{statement}
+use Rattle.smc.proofs.check.spans.Tie as tie
+
+returns : tie.Need-returns
+unfolding spanOf if
+returns c = agree-at _ spanOf 256 refl
+
+pub spans-spec : {M : Type 1} → statement M
+spans-spec = tie.close (tie.spec returns)

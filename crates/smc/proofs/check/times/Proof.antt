@@ -1,0 +1,21 @@
+use mathlib.Core.List.{[], _∷_}
+use lib.ListN.{getD}
+use Rattle.spec.proofs.Computed.{agree-at}
+use Rattle.spec.specs.Chunks.{kindOf, times}
+use native.Mathlib.Omega.{arith}
+use mathlib.Core.Path.{refl, _∙_}
+use borrow.Author.Needs.{needs}
+use Rattle.smc.proofs.check.times.Statement.{statement}
+use Rattle.smc.proofs.check.times.Tie as tie
+
+array-read-wide : tie.Need-array-read-wide
+array-read-wide c = search needs
+
+wide-requires : tie.Need-wide-requires
+wide-requires c κs = search needs
+
+returns : tie.Need-returns
+returns c = c .wide .ensures .0 ∙ agree-at (λ u. getD (1 ∷ 1 ∷ 1 ∷ 1 ∷ 2 ∷ 2 ∷ 1 ∷ 1 ∷ 1 ∷ 1 ∷ 1 ∷ 1 ∷ 1 ∷ 1 ∷ 1 ∷ 1 ∷ []) u 0) (λ u. times (kindOf u)) 16 refl (c .before .args .upper) (omega arith)
+
+pub times-spec : {M : Type 1} → statement M
+times-spec = tie.close (tie.spec array-read-wide wide-requires returns)

@@ -1,0 +1,85 @@
+use lib.Seq.{sets}
+use Prim.Native.Nat.{ℕ}
+use mathlib.Core.List.{List}
+use mathlib.Core.Path.{ap, _∙_}
+use Rattle.smc.proofs.Flagged.{octet-row}
+use native.Mathlib.Omega.{arith}
+use borrow.Author.Needs.{needs}
+use Rattle.smc.proofs.flags.put_octet_row.Statement.{statement}
+use Rattle.smc.proofs.flags.put_octet_row.Tie as tie
+
+mul-c : tie.Need-mul-c
+mul-c c = search needs
+
+add-c : tie.Need-add-c
+add-c c = search needs
+
+cast-put-four : tie.Need-cast-put-four
+cast-put-four c = search needs
+
+add-put-four : tie.Need-add-put-four
+add-put-four c = search needs
+
+element-copy-out-put-four : tie.Need-element-copy-out-put-four
+element-copy-out-put-four c = search needs
+
+cast-put-four-2 : tie.Need-cast-put-four-2
+cast-put-four-2 c = search needs
+
+add-put-four-2 : tie.Need-add-put-four-2
+add-put-four-2 c = search needs
+
+element-copy-out-put-four-2 : tie.Need-element-copy-out-put-four-2
+element-copy-out-put-four-2 c = search needs
+
+cast-put-four-3 : tie.Need-cast-put-four-3
+cast-put-four-3 c = search needs
+
+add-put-four-3 : tie.Need-add-put-four-3
+add-put-four-3 c = search needs
+
+element-copy-out-put-four-3 : tie.Need-element-copy-out-put-four-3
+element-copy-out-put-four-3 c = search needs
+
+cast-put-four-4 : tie.Need-cast-put-four-4
+cast-put-four-4 c = search needs
+
+add-put-four-4 : tie.Need-add-put-four-4
+add-put-four-4 c = search needs
+
+element-copy-out-put-four-4 : tie.Need-element-copy-out-put-four-4
+element-copy-out-put-four-4 c = search needs
+
+put-four-requires : tie.Need-put-four-requires
+put-four-requires c κs = search needs
+
+same-length : tie.Need-same-length
+same-length c = search needs
+
+returns : tie.Need-returns
+returns c =
+    let a = c .before .before .before .before .before .before .before .before .before .args in
+    c .before .before .put-four .ensures
+    ∙ ap (λ (l : List ℕ). sets (a .pic .now) (a .p) l) (octet-row (a .t .now) (a .e) (a .f) (a .g) (omega arith) (omega arith))
+
+pub put-octet-row-spec : {M : Type 1} → statement M
+put-octet-row-spec =
+    tie.close
+    (tie.spec
+    mul-c
+    add-c
+    cast-put-four
+    add-put-four
+    element-copy-out-put-four
+    cast-put-four-2
+    add-put-four-2
+    element-copy-out-put-four-2
+    cast-put-four-3
+    add-put-four-3
+    element-copy-out-put-four-3
+    cast-put-four-4
+    add-put-four-4
+    element-copy-out-put-four-4
+    put-four-requires
+    same-length
+    returns)

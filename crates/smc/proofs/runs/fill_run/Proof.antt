@@ -1,0 +1,71 @@
+use Rattle.smc.proofs.Runwise.{fill-pixels}
+use mathlib.Core.Path.{sym}
+use lib.ListN.{replicate}
+use Rattle.smc.proofs.Runwise.{Putting, putting-none, putting-more, putting-all}
+use native.Mathlib.Omega.{arith}
+use mathlib.Core.Path.{refl, _∙_}
+use Prim.Native.Nat.{_-_}
+use borrow.Author.Needs.{needs}
+use Rattle.smc.proofs.runs.fill_run.Statement.{statement}
+use Rattle.smc.proofs.runs.fill_run.Tie as tie
+
+abbrev Inv-loop : tie.InvT-loop
+Inv-loop pic₀ map₀ c r k n colour w i₀ pic map i = Putting c r k n (λ j. replicate 16 colour) pic₀ map₀ i pic map
+
+abbrev μ-loop : tie.MeasureT-loop
+μ-loop pic₀ map₀ c r k n colour w i₀ pic map i = n - i
+
+word-requires : tie.Need-word-requires Inv-loop μ-loop
+word-requires c κs = search needs
+
+loop-holds : tie.Need-loop-holds Inv-loop μ-loop
+loop-holds c = putting-none _ _ _ _ _ _ _ (c .before .before .before .pre .0) (c .before .before .before .pre .1 .1)
+
+add-settle : tie.Need-add-settle Inv-loop μ-loop
+add-settle c = search needs
+
+settle-requires : tie.Need-settle-requires Inv-loop μ-loop
+settle-requires c κs =
+    let g = c .before .before .before .loop .inv in
+    (g .canvas, (omega arith, g .entries))
+
+add-i : tie.Need-add-i Inv-loop μ-loop
+add-i c = search needs
+
+loop-less : tie.Need-loop-less Inv-loop μ-loop
+loop-less c = search needs
+
+loop-again : tie.Need-loop-again Inv-loop μ-loop
+loop-again c =
+    let a = c .before .before .before .before .before .before .before .before .before .before .before .before .args in
+    let g = c .before .before .before .before .before .before .before .before .loop .inv in
+    let px = fill-pixels (a .colour) _ _ (c .before .before .before .before .before .before .before .before .before .word .ensures) refl in
+    putting-more _ _ _ _ _ _ _ _ _ _ g (omega arith) _ px _ _ (c .before .before .before .before .settle .ensures .0) (c .before .before .before .before .settle .ensures .1)
+
+same-length : tie.Need-same-length Inv-loop μ-loop
+same-length c = c .before .loop .inv .same
+
+same-length-2 : tie.Need-same-length-2 Inv-loop μ-loop
+same-length-2 c = c .before .loop .inv .entries ∙ sym (c .before .before .before .before .before .pre .1 .1)
+
+returns : tie.Need-returns Inv-loop μ-loop
+returns c =
+    let g = c .before .loop .inv in
+    putting-all _ _ _ _ _ _ _ _ _ _ g (omega (arith, g .most))
+
+pub fill-run-spec : {M : Type 1} → statement M
+fill-run-spec =
+    tie.close
+    (tie.spec
+    Inv-loop
+    μ-loop
+    word-requires
+    loop-holds
+    add-settle
+    settle-requires
+    add-i
+    loop-less
+    loop-again
+    same-length
+    same-length-2
+    returns)

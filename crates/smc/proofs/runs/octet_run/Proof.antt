@@ -1,0 +1,136 @@
+use Rattle.smc.proofs.Flagged.{six-bytes}
+use mathlib.Core.Path.{sym}
+use Prim.Native.Nat.{ℕ}
+use mathlib.Core.List.{List}
+use Rattle.smc.proofs.Runwise.{Putting, putting-none, putting-more, putting-all}
+use Rattle.smc.specs.Tables.{colours}
+use Rattle.spec.specs.Flags.{flags, chosen}
+use Rattle.spec.specs.Basics.{part}
+use native.Mathlib.Omega.{arith}
+use mathlib.Core.Path.{refl, ap, _∙_}
+use Prim.Native.Nat.{_-_, _+_, _*_}
+use borrow.Author.Needs.{needs}
+use Rattle.smc.proofs.runs.octet_run.Statement.{statement}
+use Rattle.smc.proofs.runs.octet_run.Tie as tie
+
+abbrev Inv-loop : tie.InvT-loop
+Inv-loop pic₀ map₀ c r k n t e s at i₀ pic map i = Putting c r k n (λ j. chosen (flags 3 (part s (at + 6 * j) 6)) (part t e (colours 3))) pic₀ map₀ i pic map
+
+abbrev μ-loop : tie.MeasureT-loop
+μ-loop pic₀ map₀ c r k n t e s at i₀ pic map i = n - i
+
+loop-holds : tie.Need-loop-holds Inv-loop μ-loop
+loop-holds c = putting-none _ _ _ _ _ _ _ (c .before .before .before .pre .0) (c .before .before .before .pre .1 .1 .0)
+
+mul-q : tie.Need-mul-q Inv-loop μ-loop
+mul-q c = search needs
+
+add-q : tie.Need-add-q Inv-loop μ-loop
+add-q c = search needs
+
+add-put-octet : tie.Need-add-put-octet Inv-loop μ-loop
+add-put-octet c = search needs
+
+shared-slice-read-put-octet : tie.Need-shared-slice-read-put-octet Inv-loop μ-loop
+shared-slice-read-put-octet c = search needs
+
+add-put-octet-2 : tie.Need-add-put-octet-2 Inv-loop μ-loop
+add-put-octet-2 c = search needs
+
+shared-slice-read-put-octet-2 : tie.Need-shared-slice-read-put-octet-2 Inv-loop μ-loop
+shared-slice-read-put-octet-2 c = search needs
+
+add-put-octet-3 : tie.Need-add-put-octet-3 Inv-loop μ-loop
+add-put-octet-3 c = search needs
+
+shared-slice-read-put-octet-3 : tie.Need-shared-slice-read-put-octet-3 Inv-loop μ-loop
+shared-slice-read-put-octet-3 c = search needs
+
+add-put-octet-4 : tie.Need-add-put-octet-4 Inv-loop μ-loop
+add-put-octet-4 c = search needs
+
+shared-slice-read-put-octet-4 : tie.Need-shared-slice-read-put-octet-4 Inv-loop μ-loop
+shared-slice-read-put-octet-4 c = search needs
+
+add-put-octet-5 : tie.Need-add-put-octet-5 Inv-loop μ-loop
+add-put-octet-5 c = search needs
+
+shared-slice-read-put-octet-5 : tie.Need-shared-slice-read-put-octet-5 Inv-loop μ-loop
+shared-slice-read-put-octet-5 c = search needs
+
+add-put-octet-6 : tie.Need-add-put-octet-6 Inv-loop μ-loop
+add-put-octet-6 c = search needs
+
+shared-slice-read-put-octet-6 : tie.Need-shared-slice-read-put-octet-6 Inv-loop μ-loop
+shared-slice-read-put-octet-6 c = search needs
+
+put-octet-requires : tie.Need-put-octet-requires Inv-loop μ-loop
+put-octet-requires c κs =
+    let g = c .before .before .before .before .before .before .before .before .loop .inv in
+    (g .canvas, (omega arith, omega arith))
+
+add-map : tie.Need-add-map Inv-loop μ-loop
+add-map c = search needs
+
+mul-map : tie.Need-mul-map Inv-loop μ-loop
+mul-map c = search needs
+
+slice-write-map : tie.Need-slice-write-map Inv-loop μ-loop
+slice-write-map c = search needs
+
+add-i : tie.Need-add-i Inv-loop μ-loop
+add-i c = search needs
+
+loop-less : tie.Need-loop-less Inv-loop μ-loop
+loop-less c = search needs
+
+loop-again : tie.Need-loop-again Inv-loop μ-loop
+loop-again c =
+    let a = c .before .before .before .before .before .before .before .before .before .before .before .before .before .before .before .args in
+    let g = c .before .before .before .before .before .before .before .before .before .before .before .loop .inv in
+    let q = a .at + 6 * c .before .before .before .before .before .before .before .before .before .before .before .loop .i in
+    let px = ap (λ (bs : List ℕ). chosen (flags 3 bs) (part (a .t .now) (a .e) (colours 3))) (six-bytes (a .s .now) q (omega arith)) in
+    putting-more _ _ _ _ _ _ _ _ _ _ g (omega arith) _ px _ _ (c .before .before .put-octet .ensures) refl
+
+same-length : tie.Need-same-length Inv-loop μ-loop
+same-length c = c .before .loop .inv .same
+
+same-length-2 : tie.Need-same-length-2 Inv-loop μ-loop
+same-length-2 c = c .before .loop .inv .entries ∙ sym (c .before .before .before .before .before .pre .1 .1 .0)
+
+returns : tie.Need-returns Inv-loop μ-loop
+returns c =
+    let g = c .before .loop .inv in
+    putting-all _ _ _ _ _ _ _ _ _ _ g (omega (arith, g .most))
+
+pub octet-run-spec : {M : Type 1} → statement M
+octet-run-spec =
+    tie.close
+    (tie.spec
+    Inv-loop
+    μ-loop
+    loop-holds
+    mul-q
+    add-q
+    add-put-octet
+    shared-slice-read-put-octet
+    add-put-octet-2
+    shared-slice-read-put-octet-2
+    add-put-octet-3
+    shared-slice-read-put-octet-3
+    add-put-octet-4
+    shared-slice-read-put-octet-4
+    add-put-octet-5
+    shared-slice-read-put-octet-5
+    add-put-octet-6
+    shared-slice-read-put-octet-6
+    put-octet-requires
+    add-map
+    mul-map
+    slice-write-map
+    add-i
+    loop-less
+    loop-again
+    same-length
+    same-length-2
+    returns)

@@ -1,0 +1,112 @@
+use Rattle.smc.proofs.Flagged.{two-bytes}
+use mathlib.Core.Path.{sym}
+use Prim.Native.Nat.{ℕ}
+use mathlib.Core.List.{List, [], _∷_}
+use lib.ListN.{getD}
+use Rattle.smc.proofs.Runwise.{Putting, putting-none, putting-more, putting-all}
+use Rattle.smc.specs.Tables.{colours}
+use Rattle.spec.specs.Flags.{flags, chosen}
+use Rattle.spec.specs.Basics.{part}
+use native.Mathlib.Omega.{arith}
+use mathlib.Core.Path.{ap, _∙_}
+use Prim.Native.Nat.{_-_, _+_, _*_}
+use borrow.Author.Needs.{needs}
+use Rattle.smc.proofs.runs.pair_run.Statement.{statement}
+use Rattle.smc.proofs.runs.pair_run.Tie as tie
+
+abbrev Inv-loop : tie.InvT-loop
+Inv-loop factors pic₀ map₀ c r k n t e s at c0 c1 i₀ pic map i = Putting c r k n (λ j. chosen (flags 1 (part s (at + 2 * j) 2)) (part t e (colours 1))) pic₀ map₀ i pic map
+
+abbrev μ-loop : tie.MeasureT-loop
+μ-loop factors pic₀ map₀ c r k n t e s at c0 c1 i₀ pic map i = n - i
+
+element-copy-out-c0 : tie.Need-element-copy-out-c0 Inv-loop μ-loop
+element-copy-out-c0 c = search needs
+
+add-c1 : tie.Need-add-c1 Inv-loop μ-loop
+add-c1 c = search needs
+
+element-copy-out-c1 : tie.Need-element-copy-out-c1 Inv-loop μ-loop
+element-copy-out-c1 c = search needs
+
+loop-holds : tie.Need-loop-holds Inv-loop μ-loop
+loop-holds c = putting-none _ _ _ _ _ _ _ (c .before .before .before .before .before .pre .0) (c .before .before .before .before .before .pre .1 .1 .0)
+
+mul-q : tie.Need-mul-q Inv-loop μ-loop
+mul-q c = search needs
+
+add-q : tie.Need-add-q Inv-loop μ-loop
+add-q c = search needs
+
+shared-slice-read-pair-rows : tie.Need-shared-slice-read-pair-rows Inv-loop μ-loop
+shared-slice-read-pair-rows c = search needs
+
+add-pair-rows : tie.Need-add-pair-rows Inv-loop μ-loop
+add-pair-rows c = search needs
+
+shared-slice-read-pair-rows-2 : tie.Need-shared-slice-read-pair-rows-2 Inv-loop μ-loop
+shared-slice-read-pair-rows-2 c = search needs
+
+pair-rows-requires : tie.Need-pair-rows-requires Inv-loop μ-loop
+pair-rows-requires c κs = search needs
+
+add-settle : tie.Need-add-settle Inv-loop μ-loop
+add-settle c = search needs
+
+settle-requires : tie.Need-settle-requires Inv-loop μ-loop
+settle-requires c κs =
+    let g = c .before .before .before .before .before .before .loop .inv in
+    (g .canvas, (omega arith, g .entries))
+
+add-i : tie.Need-add-i Inv-loop μ-loop
+add-i c = search needs
+
+loop-less : tie.Need-loop-less Inv-loop μ-loop
+loop-less c = search needs
+
+loop-again : tie.Need-loop-again Inv-loop μ-loop
+loop-again c =
+    let a = c .before .before .before .before .before .before .before .before .before .before .before .before .before .before .before .before .before .args in
+    let g = c .before .before .before .before .before .before .before .before .before .before .before .loop .inv in
+    let q = a .at + 2 * c .before .before .before .before .before .before .before .before .before .before .before .loop .i in
+    let px =
+    c .before .before .before .before .before .before .before .pair-rows .ensures
+    ∙ ap (λ (bs : List ℕ). chosen (flags 1 bs) (getD (a .t .now) (a .e) 0 ∷ getD (a .t .now) (a .e + 1) 0 ∷ [])) (two-bytes (a .s .now) q (omega arith))
+    ∙ ap (λ (cs : List ℕ). chosen (flags 1 (part (a .s .now) q 2)) cs) (two-bytes (a .t .now) (a .e) (omega (arith, c .before .before .before .before .before .before .before .before .before .before .before .before .before .before .before .before .before .pre .1 .1 .1 .1 .0, c .before .before .before .before .before .before .before .before .before .before .before .before .before .before .before .before .before .pre .1 .1 .1 .1 .1 .0))) in
+    putting-more _ _ _ _ _ _ _ _ _ _ g (omega arith) _ px _ _ (c .before .before .before .before .settle .ensures .0) (c .before .before .before .before .settle .ensures .1)
+
+same-length : tie.Need-same-length Inv-loop μ-loop
+same-length c = c .before .loop .inv .same
+
+same-length-2 : tie.Need-same-length-2 Inv-loop μ-loop
+same-length-2 c = c .before .loop .inv .entries ∙ sym (c .before .before .before .before .before .before .before .pre .1 .1 .0)
+
+returns : tie.Need-returns Inv-loop μ-loop
+returns c =
+    let g = c .before .loop .inv in
+    putting-all _ _ _ _ _ _ _ _ _ _ g (omega (arith, g .most))
+
+pub pair-run-spec : {M : Type 1} → statement M
+pair-run-spec =
+    tie.close
+    (tie.spec
+    Inv-loop
+    μ-loop
+    element-copy-out-c0
+    add-c1
+    element-copy-out-c1
+    loop-holds
+    mul-q
+    add-q
+    shared-slice-read-pair-rows
+    add-pair-rows
+    shared-slice-read-pair-rows-2
+    pair-rows-requires
+    add-settle
+    settle-requires
+    add-i
+    loop-less
+    loop-again
+    same-length
+    same-length-2
+    returns)

@@ -1,0 +1,112 @@
+use Rattle.smc.proofs.Flagged.{four-bytes}
+use mathlib.Core.Path.{sym}
+use Prim.Native.Nat.{ℕ}
+use mathlib.Core.List.{List}
+use Rattle.smc.proofs.Runwise.{Putting, putting-none, putting-more, putting-all}
+use Rattle.smc.specs.Tables.{colours}
+use Rattle.spec.specs.Flags.{flags, chosen}
+use Rattle.spec.specs.Basics.{part}
+use native.Mathlib.Omega.{arith}
+use mathlib.Core.Path.{ap, _∙_}
+use Prim.Native.Nat.{_-_, _+_, _*_}
+use borrow.Author.Needs.{needs}
+use Rattle.smc.proofs.runs.quad_run.Statement.{statement}
+use Rattle.smc.proofs.runs.quad_run.Tie as tie
+
+abbrev Inv-loop : tie.InvT-loop
+Inv-loop pic₀ map₀ c r k n t e s at i₀ pic map i = Putting c r k n (λ j. chosen (flags 2 (part s (at + 4 * j) 4)) (part t e (colours 2))) pic₀ map₀ i pic map
+
+abbrev μ-loop : tie.MeasureT-loop
+μ-loop pic₀ map₀ c r k n t e s at i₀ pic map i = n - i
+
+loop-holds : tie.Need-loop-holds Inv-loop μ-loop
+loop-holds c = putting-none _ _ _ _ _ _ _ (c .before .before .before .pre .0) (c .before .before .before .pre .1 .1 .0)
+
+mul-q : tie.Need-mul-q Inv-loop μ-loop
+mul-q c = search needs
+
+add-q : tie.Need-add-q Inv-loop μ-loop
+add-q c = search needs
+
+shared-slice-read-quad-rows : tie.Need-shared-slice-read-quad-rows Inv-loop μ-loop
+shared-slice-read-quad-rows c = search needs
+
+add-quad-rows : tie.Need-add-quad-rows Inv-loop μ-loop
+add-quad-rows c = search needs
+
+shared-slice-read-quad-rows-2 : tie.Need-shared-slice-read-quad-rows-2 Inv-loop μ-loop
+shared-slice-read-quad-rows-2 c = search needs
+
+add-quad-rows-2 : tie.Need-add-quad-rows-2 Inv-loop μ-loop
+add-quad-rows-2 c = search needs
+
+shared-slice-read-quad-rows-3 : tie.Need-shared-slice-read-quad-rows-3 Inv-loop μ-loop
+shared-slice-read-quad-rows-3 c = search needs
+
+add-quad-rows-3 : tie.Need-add-quad-rows-3 Inv-loop μ-loop
+add-quad-rows-3 c = search needs
+
+shared-slice-read-quad-rows-4 : tie.Need-shared-slice-read-quad-rows-4 Inv-loop μ-loop
+shared-slice-read-quad-rows-4 c = search needs
+
+quad-rows-requires : tie.Need-quad-rows-requires Inv-loop μ-loop
+quad-rows-requires c κs = search needs
+
+add-settle : tie.Need-add-settle Inv-loop μ-loop
+add-settle c = search needs
+
+settle-requires : tie.Need-settle-requires Inv-loop μ-loop
+settle-requires c κs =
+    let g = c .before .before .before .before .before .before .before .before .loop .inv in
+    (g .canvas, (omega arith, g .entries))
+
+add-i : tie.Need-add-i Inv-loop μ-loop
+add-i c = search needs
+
+loop-less : tie.Need-loop-less Inv-loop μ-loop
+loop-less c = search needs
+
+loop-again : tie.Need-loop-again Inv-loop μ-loop
+loop-again c =
+    let a = c .before .before .before .before .before .before .before .before .before .before .before .before .before .before .before .before .before .args in
+    let g = c .before .before .before .before .before .before .before .before .before .before .before .before .before .loop .inv in
+    let q = a .at + 4 * c .before .before .before .before .before .before .before .before .before .before .before .before .before .loop .i in
+    let px = c .before .before .before .before .before .before .before .quad-rows .ensures ∙ ap (λ (bs : List ℕ). chosen (flags 2 bs) (part (a .t .now) (a .e) (colours 2))) (four-bytes (a .s .now) q (omega arith)) in
+    putting-more _ _ _ _ _ _ _ _ _ _ g (omega arith) _ px _ _ (c .before .before .before .before .settle .ensures .0) (c .before .before .before .before .settle .ensures .1)
+
+same-length : tie.Need-same-length Inv-loop μ-loop
+same-length c = c .before .loop .inv .same
+
+same-length-2 : tie.Need-same-length-2 Inv-loop μ-loop
+same-length-2 c = c .before .loop .inv .entries ∙ sym (c .before .before .before .before .before .pre .1 .1 .0)
+
+returns : tie.Need-returns Inv-loop μ-loop
+returns c =
+    let g = c .before .loop .inv in
+    putting-all _ _ _ _ _ _ _ _ _ _ g (omega (arith, g .most))
+
+pub quad-run-spec : {M : Type 1} → statement M
+quad-run-spec =
+    tie.close
+    (tie.spec
+    Inv-loop
+    μ-loop
+    loop-holds
+    mul-q
+    add-q
+    shared-slice-read-quad-rows
+    add-quad-rows
+    shared-slice-read-quad-rows-2
+    add-quad-rows-2
+    shared-slice-read-quad-rows-3
+    add-quad-rows-3
+    shared-slice-read-quad-rows-4
+    quad-rows-requires
+    add-settle
+    settle-requires
+    add-i
+    loop-less
+    loop-again
+    same-length
+    same-length-2
+    returns)

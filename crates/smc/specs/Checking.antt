@@ -1,0 +1,41 @@
+-- What the check pass goes by. Assumes nothing.
+use Prim.Native.Nat.{ℕ, _+_, _*_, _/_, _%_, _<_}
+use mathlib.Core.Path.{_≡_}
+use mathlib.Core.List.{List, [], _∷_}
+use lib.Dec.{eqb, ltb}
+use lib.ListN.{getD}
+use Rattle.spec.specs.Basics.{if}
+use Rattle.spec.specs.Chunks as Chunks
+use Rattle.spec.specs.Chunks.{kindOf, counted, times, once, each, capacity, bodyAt}
+use Rattle.smc.specs.declared.check.Filled.{Filled}
+use Rattle.smc.specs.declared.check.Head as Code
+use Rattle.smc.specs.declared.check.Head.the-variants.{Bad, Runs}
+
+-- how many bytes an opcode takes, by its first byte: where a byte of its own counts, no bytes come for each block
+unfoldable pub spanOf : ℕ → ℕ
+spanOf b =
+    let u = kindOf (b / 16) in
+    if (counted (b / 16)) 2 1 + once u + each u * (times u * (1 + b % 16))
+
+abbrev pub Spans : List ℕ → Type 0
+Spans l = (b : ℕ) → b < 256 → getD l b 0 ≡ spanOf b
+
+-- how many entries are filled, of so many stored
+unfoldable pub capped : ℕ → ℕ
+capped x = if (ltb x capacity) x capacity
+
+-- as the definitions list them, by bits a pixel
+abbrev pub fillsOf : Filled → List ℕ
+fillsOf f = 0 ∷ capped (f .pairs) ∷ capped (f .quads) ∷ capped (f .octets) ∷ []
+
+unfoldable pub bumped : ℕ → ℕ → ℕ → ℕ
+bumped x u v = if (eqb u v) (x + 1) x
+
+abbrev pub grown : Filled → ℕ → Filled
+grown f u = record { pairs = bumped (f .pairs) u 8; quads = bumped (f .quads) u 10; octets = bumped (f .octets) u 12 }
+
+-- the code's head tells the definition's, and the place after the opcode
+pub data Tells (s : List ℕ) (at : ℕ) : Code.Head → Chunks.Head → Type 0 where
+  bad : {e : ℕ} → Tells s at (Bad e) (Chunks.Head.bad e)
+  runs : {u m next : ℕ} → u < 16 → next ≡ bodyAt s at + once (kindOf u) + each (kindOf u) * m
+      → Tells s at (Runs u m next) (Chunks.Head.runs (kindOf u) m (bodyAt s at))

@@ -1,0 +1,23 @@
+-- A colour table as the code holds it: one run of bytes, and the next entry's number. Assumes nothing.
+use Prim.Native.Nat.{ℕ, _*_, _^_, _<_, _≤_}
+use mathlib.Core.Path.{_≡_}
+use mathlib.Core.List.{List}
+use lib.ListN.{length}
+use Rattle.spec.specs.Chunks.{Table, capacity}
+use Rattle.spec.proofs.Cells.{tableOf}
+
+-- a table of b bits a pixel: the colours to an entry, and all of them
+abbrev pub colours : ℕ → ℕ
+colours b = 2 ^ b
+
+abbrev pub size : ℕ → ℕ
+size b = colours b * capacity
+
+-- l and next hold the table t of b bits a pixel. How many entries are filled the code does not keep
+pub record Holds (b : ℕ) (l : List ℕ) (next : ℕ) (t : Table) : Type 0 where
+  pub filled : ℕ
+  pub same : t ≡ tableOf (colours b) l filled next
+  pub few : filled ≤ capacity
+  pub byte : next < capacity
+  pub first : filled < capacity → next ≡ filled
+  pub room : length l ≡ size b

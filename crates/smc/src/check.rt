@@ -1,0 +1,495 @@
+// The check pass: it decides the answer to a chunk, and writes nothing.
+use crate::heads;
+use spec::Answer;
+ghost use mathlib.Core.Path.{_≡_};
+ghost use Prim.Native.Nat.{_+_, _*_, _^_, _≤_, _<_};
+ghost use lib.ListN.{length, getD};
+ghost use Rattle.spec.specs.Basics.{part};
+ghost use Rattle.spec.specs.Flags.{number};
+ghost use Rattle.spec.specs.Chunks.{kindOf, times, reach, once, missing, opcode, decode, verdict, upperAt};
+ghost use Rattle.smc.specs.Checking.{spanOf, Spans, bumped, grown, fillsOf, Tells};
+
+// What the upper half-byte of an opcode asks for, 0 to F: blocks to a count, blocks that must stand before, bytes that come once.
+const TIMES: [u8; 16] = [1, 1, 1, 1, 2, 2, 1, 1, 1, 1, 1, 1, 1, 1, 1, 1];
+
+const REACH: [u8; 16] = [0, 0, 1, 1, 2, 2, 0, 0, 0, 0, 0, 0, 0, 0, 0, 0];
+
+const ONCE: [u8; 16] = [0, 0, 0, 0, 0, 0, 1, 1, 2, 1, 4, 1, 8, 1, 0, 0];
+
+// How many bytes an opcode takes in all, by its first byte: those with a count byte have no bytes for each block. One row an upper half-byte.
+const SPANS: [u16; 256] = [
+    1,
+    1,
+    1,
+    1,
+    1,
+    1,
+    1,
+    1,
+    1,
+    1,
+    1,
+    1,
+    1,
+    1,
+    1,
+    1,
+    2,
+    2,
+    2,
+    2,
+    2,
+    2,
+    2,
+    2,
+    2,
+    2,
+    2,
+    2,
+    2,
+    2,
+    2,
+    2,
+    1,
+    1,
+    1,
+    1,
+    1,
+    1,
+    1,
+    1,
+    1,
+    1,
+    1,
+    1,
+    1,
+    1,
+    1,
+    1,
+    2,
+    2,
+    2,
+    2,
+    2,
+    2,
+    2,
+    2,
+    2,
+    2,
+    2,
+    2,
+    2,
+    2,
+    2,
+    2,
+    1,
+    1,
+    1,
+    1,
+    1,
+    1,
+    1,
+    1,
+    1,
+    1,
+    1,
+    1,
+    1,
+    1,
+    1,
+    1,
+    2,
+    2,
+    2,
+    2,
+    2,
+    2,
+    2,
+    2,
+    2,
+    2,
+    2,
+    2,
+    2,
+    2,
+    2,
+    2,
+    2,
+    2,
+    2,
+    2,
+    2,
+    2,
+    2,
+    2,
+    2,
+    2,
+    2,
+    2,
+    2,
+    2,
+    2,
+    2,
+    3,
+    3,
+    3,
+    3,
+    3,
+    3,
+    3,
+    3,
+    3,
+    3,
+    3,
+    3,
+    3,
+    3,
+    3,
+    3,
+    5,
+    7,
+    9,
+    11,
+    13,
+    15,
+    17,
+    19,
+    21,
+    23,
+    25,
+    27,
+    29,
+    31,
+    33,
+    35,
+    4,
+    6,
+    8,
+    10,
+    12,
+    14,
+    16,
+    18,
+    20,
+    22,
+    24,
+    26,
+    28,
+    30,
+    32,
+    34,
+    9,
+    13,
+    17,
+    21,
+    25,
+    29,
+    33,
+    37,
+    41,
+    45,
+    49,
+    53,
+    57,
+    61,
+    65,
+    69,
+    6,
+    10,
+    14,
+    18,
+    22,
+    26,
+    30,
+    34,
+    38,
+    42,
+    46,
+    50,
+    54,
+    58,
+    62,
+    66,
+    15,
+    21,
+    27,
+    33,
+    39,
+    45,
+    51,
+    57,
+    63,
+    69,
+    75,
+    81,
+    87,
+    93,
+    99,
+    105,
+    8,
+    14,
+    20,
+    26,
+    32,
+    38,
+    44,
+    50,
+    56,
+    62,
+    68,
+    74,
+    80,
+    86,
+    92,
+    98,
+    17,
+    33,
+    49,
+    65,
+    81,
+    97,
+    113,
+    129,
+    145,
+    161,
+    177,
+    193,
+    209,
+    225,
+    241,
+    257,
+    1,
+    1,
+    1,
+    1,
+    1,
+    1,
+    1,
+    1,
+    1,
+    1,
+    1,
+    1,
+    1,
+    1,
+    1,
+    1,
+];
+
+fn times(upper: usize) -> usize
+    requires { ⌜ upper < 16 ⌝ }
+    ensures { λ r. ⌜ r ≡ times (kindOf upper) ⌝ }
+{
+    heads::wide(TIMES[upper])
+}
+
+fn reach(upper: usize) -> usize
+    requires { ⌜ upper < 16 ⌝ }
+    ensures { λ r. ⌜ r ≡ reach (kindOf upper) ⌝ }
+{
+    heads::wide(REACH[upper])
+}
+
+fn once(upper: usize) -> usize
+    requires { ⌜ upper < 16 ⌝ }
+    ensures { λ r. ⌜ r ≡ once (kindOf upper) ⌝ }
+{
+    heads::wide(ONCE[upper])
+}
+
+fn spans() -> [u16; 256]
+    ensures { λ r. ⌜ Spans r ⌝ }
+{
+    SPANS
+}
+
+fn span_of(spans: &[u16; 256], opcode: usize) -> usize
+    requires { ⌜ Spans (now spans) ⌝ }
+    requires { ⌜ opcode < 256 ⌝ }
+    ensures { λ r. ⌜ r ≡ spanOf opcode ⌝ }
+{
+    spans[opcode] as usize
+}
+
+// How many entries have been stored in each table. Past 256 the table is full, and so it stays.
+pub struct Filled {
+    pub pairs: usize,
+    pub quads: usize,
+    pub octets: usize,
+}
+
+// An opcode's head: a refusal's number; or its upper half-byte, how many blocks it makes, and the place of the next opcode.
+pub enum Head {
+    Bad(u8),
+    Runs(usize, usize, usize),
+}
+
+// Whether the opcode names an entry that is not filled; the entry's number stands at s[at].
+fn missing(s: &[u8], f: Filled, upper: usize, at: usize) -> bool
+    requires { ⌜ at + once (kindOf upper) ≤ length (now s) ⌝ }
+    requires { ⌜ upper < 16 ⌝ }
+    ensures { λ r. ⌜ r ≡ missing (fillsOf f) (kindOf upper) (getD (now (s .entry)) at 0) ⌝ }
+{
+    if upper == 9 {
+        return f.pairs <= heads::wide(s[at]);
+    }
+    if upper == 11 {
+        return f.quads <= heads::wide(s[at]);
+    }
+    if upper == 13 {
+        return f.octets <= heads::wide(s[at]);
+    }
+    false
+}
+
+// One entry more where the opcode is the one that stores in this table.
+fn bumped(stored: usize, upper: usize, storing: usize) -> usize
+    requires { ⌜ stored < 256 ^ 3 ⌝ }
+    ensures { λ r. ⌜ r ≡ bumped stored upper storing ⌝ }
+{
+    if upper == storing { stored + 1 } else { stored }
+}
+
+fn grown(f: Filled, upper: usize) -> Filled
+    requires { ⌜ (f .pairs < 256 ^ 3) × (f .quads < 256 ^ 3) × (f .octets < 256 ^ 3) ⌝ }
+    ensures { λ r. ⌜ r ≡ grown f upper ⌝ }
+{
+    Filled {
+        pairs: bumped(f.pairs, upper, 8),
+        quads: bumped(f.quads, upper, 10),
+        octets: bumped(f.octets, upper, 12),
+    }
+}
+
+// An opcode whose bytes are all there.
+fn whole(blocks: usize, s: &[u8], at: usize, k: usize, f: Filled, span: usize) -> Head
+    requires { ⌜ at < length (now s) ⌝ }
+    requires { ⌜ span ≡ spanOf (getD (now s) at 0) ⌝ }
+    requires { ⌜ at + span ≤ length (now s) ⌝ }
+    requires { ⌜ k < blocks ⌝ }
+    ensures { λ r. ⌜ Tells (now (s .entry)) at r (opcode blocks (now (s .entry)) at k (fillsOf f)) ⌝ }
+{
+    let lead = heads::lead_at(s, at);
+    let upper = lead.upper;
+    let m = times(upper) * lead.count;
+    if upper == 15 {
+        return Head::Bad(Answer::OPCODE_UNKNOWN);
+    }
+    if k < reach(upper) {
+        return Head::Bad(Answer::NONE_BEFORE);
+    }
+    if blocks - k < m {
+        return Head::Bad(Answer::PAST_LAST_BLOCK);
+    }
+    if missing(s, f, upper, lead.body) {
+        return Head::Bad(Answer::ENTRY_EMPTY);
+    }
+    Head::Runs(upper, m, at + span)
+}
+
+// An opcode inside which the bytes end: refused, and the order of the tests says by which number.
+fn cut(blocks: usize, s: &[u8], at: usize, k: usize, f: Filled) -> Head
+    requires { ⌜ at < length (now s) ⌝ }
+    requires { ⌜ length (now s) < at + spanOf (getD (now s) at 0) ⌝ }
+    requires { ⌜ k < blocks ⌝ }
+    ensures { λ r. ⌜ Tells (now (s .entry)) at r (opcode blocks (now (s .entry)) at k (fillsOf f)) ⌝ }
+{
+    if s.len() - at <= heads::count_bytes(heads::wide(s[at]) / 16) {
+        return Head::Bad(Answer::OPCODE_CUT);
+    }
+    let lead = heads::lead_at(s, at);
+    let upper = lead.upper;
+    if k < reach(upper) {
+        return Head::Bad(Answer::NONE_BEFORE);
+    }
+    if blocks - k < times(upper) * lead.count {
+        return Head::Bad(Answer::PAST_LAST_BLOCK);
+    }
+    if s.len() - lead.body < once(upper) {
+        return Head::Bad(Answer::OPCODE_CUT);
+    }
+    if missing(s, f, upper, lead.body) {
+        return Head::Bad(Answer::ENTRY_EMPTY);
+    }
+    Head::Bad(Answer::OPCODE_CUT)
+}
+
+fn opcode(spans: &[u16; 256], blocks: usize, s: &[u8], at: usize, k: usize, f: Filled) -> Head
+    requires { ⌜ Spans (now spans) ⌝ }
+    requires { ⌜ at < length (now s) ⌝ }
+    requires { ⌜ k < blocks ⌝ }
+    ensures { λ r. ⌜ Tells (now (s .entry)) at r (opcode blocks (now (s .entry)) at k (fillsOf f)) ⌝ }
+{
+    let span = span_of(spans, heads::wide(s[at]));
+    if s.len() - at < span {
+        return cut(blocks, s, at, k, f);
+    }
+    whole(blocks, s, at, k, f, span)
+}
+
+// The opcodes of a chunk whose stated length is right.
+fn check_opcodes(blocks: usize, s: &[u8]) -> Answer
+    requires { ⌜ 4 ≤ length (now s) ⌝ }
+    requires { ⌜ number 256 (part (now s) 1 3) ≡ length (now s) ⌝ }
+    requires { ⌜ length (now s) < 256 ^ 3 ⌝ }
+    ensures { λ r. ⌜ r ≡ verdict (now (s .entry)) (decode blocks (now (s .entry))) ⌝ }
+{
+    let spans = spans();
+    let len = s.len();
+    let mut at = 4;
+    let mut k = 0;
+    let mut f = Filled {
+        pairs: 0,
+        quads: 0,
+        octets: 0,
+    };
+    while k < blocks {
+        if len <= at {
+            return Answer {
+                number: Answer::BLOCKS_REMAIN,
+                place: len,
+            };
+        }
+        let head = opcode(&spans, blocks, s, at, k, f);
+        match head {
+            Head::Bad(number) => return Answer { number, place: at },
+            Head::Runs(upper, m, next) => {
+                let g = grown(f, upper);
+                f = g;
+                at = next;
+                k += m;
+            }
+        }
+    }
+    if at < len {
+        return Answer {
+            number: Answer::BYTES_FOLLOW,
+            place: at,
+        };
+    }
+    Answer {
+        number: Answer::OK,
+        place: len,
+    }
+}
+
+// The answer to a chunk for a picture of so many blocks.
+pub fn check(blocks: usize, s: &[u8]) -> Answer
+    ensures { λ r. ⌜ r ≡ verdict (now (s .entry)) (decode blocks (now (s .entry))) ⌝ }
+{
+    let len = s.len();
+    if len < 4 {
+        return Answer {
+            number: Answer::CHUNK_SHORT,
+            place: 0,
+        };
+    }
+    let stated = (heads::wide(s[1]) * 256 + heads::wide(s[2])) * 256 + heads::wide(s[3]);
+    if stated != len {
+        return Answer {
+            number: Answer::LENGTH_DIFFERS,
+            place: 0,
+        };
+    }
+    check_opcodes(blocks, s)
+}

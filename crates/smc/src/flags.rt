@@ -1,0 +1,160 @@
+// A block's pixels by its flags: which colour of a table's entry each pixel takes.
+use crate::blocks;
+use crate::blocks::Rows;
+use crate::tables::OctetTable;
+use crate::tables::QuadTable;
+ghost use mathlib.Core.Path.{_≡_};
+ghost use mathlib.Core.List.{[], _∷_};
+ghost use Prim.Native.Nat.{_+_, _*_, _≤_, _<_};
+ghost use lib.ListN.{length};
+ghost use lib.Seq.{sets};
+ghost use Rattle.spec.specs.Basics.{part};
+ghost use Rattle.spec.specs.Flags.{digits, flags, chosen};
+ghost use Rattle.spec.specs.Pictures.{putBlock};
+ghost use Rattle.smc.specs.Blocks.{rowOf, pixels, Canvas};
+ghost use Rattle.smc.specs.Tables.{colours, size};
+ghost use Rattle.smc.specs.Factors.{Factors};
+
+// ---- pairs: one bit a pixel
+
+// For each half-byte the factor that puts a colour at the bits that are set; ALL puts it at all four.
+const FACTORS: [u32; 16] = [
+    0,
+    16777216,
+    65536,
+    16842752,
+    256,
+    16777472,
+    65792,
+    16843008,
+    1,
+    16777217,
+    65537,
+    16842753,
+    257,
+    16777473,
+    65793,
+    16843009,
+];
+
+const ALL: u32 = 16843009;
+
+pub fn pair_factors() -> [u32; 16]
+    ensures { λ r. ⌜ Factors r ⌝ }
+{
+    FACTORS
+}
+
+// Four pixels by a half-byte: c0 everywhere, and the difference to c1, which may wrap, where a bit is set.
+fn pair_row(factors: &[u32; 16], c0: u8, c1: u8, f: u8) -> u32
+    requires { ⌜ Factors (now factors) ⌝ }
+    requires { ⌜ f < 16 ⌝ }
+    ensures { λ r. ⌜ rowOf r ≡ chosen (digits 1 4 f) (c0 ∷ c1 ∷ []) ⌝ }
+{
+    let m = factors[f as usize];
+    let a = c0 as u32 * m;
+    let b = c1 as u32 * m;
+    std::num::wrapping_add_u32(c0 as u32 * ALL, std::num::wrapping_sub_u32(b, a))
+}
+
+pub fn pair_rows(factors: &[u32; 16], c0: u8, c1: u8, f0: u8, f1: u8) -> Rows
+    requires { ⌜ Factors (now factors) ⌝ }
+    ensures { λ r. ⌜ pixels r ≡ chosen (flags 1 (f0 ∷ f1 ∷ [])) (c0 ∷ c1 ∷ []) ⌝ }
+{
+    let a = pair_row(factors, c0, c1, f0 / 16);
+    let b = pair_row(factors, c0, c1, f0 % 16);
+    let c = pair_row(factors, c0, c1, f1 / 16);
+    let d = pair_row(factors, c0, c1, f1 % 16);
+    Rows { a, b, c, d }
+}
+
+// ---- quads: two bits a pixel
+
+fn quad_row(t: &[u8; QuadTable::CAPACITY * QuadTable::COLOURS], e: usize, f: u8) -> u32
+    requires { ⌜ e + colours 2 ≤ size 2 ⌝ }
+    ensures { λ r. ⌜ rowOf r ≡ chosen (digits 2 4 f) (part (now (t .entry)) e (colours 2)) ⌝ }
+{
+    let x = f as usize;
+    blocks::word(
+        t[e + x / 64],
+        t[e + x / 16 % 4],
+        t[e + x / 4 % 4],
+        t[e + x % 4],
+    )
+}
+
+pub fn quad_rows(
+    t: &[u8; QuadTable::CAPACITY * QuadTable::COLOURS],
+    e: usize,
+    f0: u8,
+    f1: u8,
+    f2: u8,
+    f3: u8,
+) -> Rows
+    requires { ⌜ e + colours 2 ≤ size 2 ⌝ }
+    ensures { λ r. ⌜ pixels r ≡ chosen (flags 2 (f0 ∷ f1 ∷ f2 ∷ f3 ∷ [])) (part (now (t .entry)) e (colours 2)) ⌝ }
+{
+    let a = quad_row(t, e, f0);
+    let b = quad_row(t, e, f1);
+    let c = quad_row(t, e, f2);
+    let d = quad_row(t, e, f3);
+    Rows { a, b, c, d }
+}
+
+// ---- octets: three bits a pixel. Nothing here is wider than a byte but places.
+
+// Stores at pic[p] four pixels by twelve bits: a byte, and the half-byte after it.
+fn put_octet_row(
+    pic: &mut [u8],
+    p: usize,
+    t: &[u8; OctetTable::CAPACITY * OctetTable::COLOURS],
+    e: usize,
+    f: u8,
+    g: u8,
+)
+    requires { ⌜ p + 4 ≤ length (now pic) ⌝ }
+    requires { ⌜ e + colours 3 ≤ size 3 ⌝ }
+    requires { ⌜ g < 16 ⌝ }
+    ensures { λ _. ⌜ now (pic .exit) ≡ sets (now (pic .entry)) p (chosen (digits 3 4 (f * 16 + g)) (part (now (t .entry)) e (colours 3))) ⌝ }
+{
+    let a = f / 32;
+    let b = f / 4 % 8;
+    let c = f % 4 * 2 + g / 8;
+    let d = g % 8;
+    blocks::put_four(
+        pic,
+        p,
+        t[e + a as usize],
+        t[e + b as usize],
+        t[e + c as usize],
+        t[e + d as usize],
+    );
+}
+
+// Puts block k by six flag bytes, with the colours at t[e].
+pub fn put_octet(
+    pic: &mut [u8],
+    c: usize,
+    r: usize,
+    k: usize,
+    t: &[u8; OctetTable::CAPACITY * OctetTable::COLOURS],
+    e: usize,
+    f0: u8,
+    f1: u8,
+    f2: u8,
+    f3: u8,
+    f4: u8,
+    f5: u8,
+)
+    requires { ⌜ Canvas c r (now pic) ⌝ }
+    requires { ⌜ k < c * r ⌝ }
+    requires { ⌜ e + colours 3 ≤ size 3 ⌝ }
+    ensures { λ _. ⌜ now (pic .exit) ≡ putBlock c k (chosen (flags 3 (f0 ∷ f1 ∷ f2 ∷ f3 ∷ f4 ∷ f5 ∷ [])) (part (now (t .entry)) e (colours 3))) (now (pic .entry)) ⌝ }
+{
+    let p = blocks::place_of(c, k);
+    let w = 4 * c;
+    put_octet_row(pic, p, t, e, f0, f1 / 16);
+    put_octet_row(pic, p + w, t, e, f2, f3 / 16);
+    put_octet_row(pic, p + 2 * w, t, e, f4, f5 / 16);
+    put_octet_row(pic, p + 3 * w, t, e, f1 % 16 * 16 + f3 % 16, f5 % 16);
+}

@@ -1,0 +1,94 @@
+// The three colour tables of a chunk. A table is one run of colours, entry after entry, and the number of its next entry.
+ghost use mathlib.Core.Path.{_≡_};
+ghost use Prim.Native.Nat.{_+_, _*_, _%_, _≤_};
+ghost use lib.ListN.{length};
+ghost use lib.Seq.{sets};
+ghost use Rattle.spec.specs.Basics.{part};
+ghost use Rattle.spec.specs.Chunks.{capacity, emptied};
+ghost use Rattle.smc.specs.Tables.{Holds};
+
+// The pairs stored in a chunk.
+pub struct PairTable {
+    pub colours: [u8; PairTable::CAPACITY * PairTable::COLOURS],
+    pub next: u8,
+}
+
+impl PairTable {
+    pub const CAPACITY: usize = 256;
+
+    // to an entry
+    pub const COLOURS: usize = 2;
+
+    // The table at the start of a chunk.
+    pub fn emptied() -> Self
+        ensures { λ r. ⌜ Holds 1 (r .colours) (r .next) emptied ⌝ }
+    {
+        Self {
+            colours: [0; PairTable::CAPACITY * PairTable::COLOURS],
+            next: 0,
+        }
+    }
+}
+
+// The quads stored in a chunk.
+pub struct QuadTable {
+    pub colours: [u8; QuadTable::CAPACITY * QuadTable::COLOURS],
+    pub next: u8,
+}
+
+impl QuadTable {
+    pub const CAPACITY: usize = 256;
+
+    // to an entry
+    pub const COLOURS: usize = 4;
+
+    // The table at the start of a chunk.
+    pub fn emptied() -> Self
+        ensures { λ r. ⌜ Holds 2 (r .colours) (r .next) emptied ⌝ }
+    {
+        Self {
+            colours: [0; QuadTable::CAPACITY * QuadTable::COLOURS],
+            next: 0,
+        }
+    }
+}
+
+// The octets stored in a chunk.
+pub struct OctetTable {
+    pub colours: [u8; OctetTable::CAPACITY * OctetTable::COLOURS],
+    pub next: u8,
+}
+
+impl OctetTable {
+    pub const CAPACITY: usize = 256;
+
+    // to an entry
+    pub const COLOURS: usize = 8;
+
+    // The table at the start of a chunk.
+    pub fn emptied() -> Self
+        ensures { λ r. ⌜ Holds 3 (r .colours) (r .next) emptied ⌝ }
+    {
+        Self {
+            colours: [0; OctetTable::CAPACITY * OctetTable::COLOURS],
+            next: 0,
+        }
+    }
+}
+
+// Stores the w colours at s[q] as entry `next`, and gives the number of the entry after it: after the last comes the first.
+pub fn store(t: &mut [u8], w: usize, next: u8, s: &[u8], q: usize) -> u8
+    requires { ⌜ w ≤ 8 ⌝ }
+    requires { ⌜ length (now t) ≡ w * capacity ⌝ }
+    requires { ⌜ q + w ≤ length (now s) ⌝ }
+    ensures { λ _. ⌜ now (t .exit) ≡ sets (now (t .entry)) (w * next) (part (now (s .entry)) q w) ⌝ }
+    ensures { λ r. ⌜ r ≡ (next + 1) % capacity ⌝ }
+{
+    let e = w * next as usize;
+    let mut i = 0;
+    while i < w {
+        t[e + i] = s[q + i];
+        i += 1;
+    }
+    std::num::wrapping_add_u8(next, 1)
+}

@@ -1,0 +1,196 @@
+//! Paper 01's numbered examples that concern reading, with fresh map and count.
+
+use std::fmt::Debug;
+
+use crate::compare::{Outcome, Reader};
+use crate::generate::Board;
+use crate::library::{Answer, Count, Size};
+
+const SETTLED: u16 = 65_535;
+
+struct Example {
+    number: usize,
+    size: (usize, usize),
+    chunk: &'static [u8],
+    answer: (u8, usize),
+    /// What an accepted chunk leaves; a refused one leaves what was lent.
+    leaves: Option<(Vec<u8>, Vec<u16>)>,
+}
+
+fn accepted(
+    number: usize,
+    size: (usize, usize),
+    chunk: &'static [u8],
+    picture: &[u8],
+    map: &[u16],
+) -> Example {
+    let leaves = Some((picture.to_vec(), map.to_vec()));
+    Example {
+        number,
+        size,
+        chunk,
+        answer: (0, chunk.len()),
+        leaves,
+    }
+}
+
+fn refused(
+    number: usize,
+    size: (usize, usize),
+    chunk: &'static [u8],
+    answer: (u8, usize),
+) -> Example {
+    Example {
+        number,
+        size,
+        chunk,
+        answer,
+        leaves: None,
+    }
+}
+
+/// Neighbouring pixels differ, so that nothing is right by chance.
+fn lent_picture(pixels: usize) -> Vec<u8> {
+    (0..pixels).map(|pixel| 100 + (pixel % 100) as u8).collect()
+}
+
+#[rustfmt::skip]
+const HALF_BYTES: &[u8] = &[
+    0xE1, 0, 0, 0x13, 0xC0, 0, 1, 2, 3, 4, 5, 6, 7, 0x01, 0x23, 0x45, 0x67, 0x89, 0xAB,
+];
+const TWO_FILLED: &[u8] = &[0xE1, 0, 0, 6, 0x61, 5];
+const LOWER_LEFT: &[u8] = &[0xE1, 0, 0, 9, 0x80, 3, 7, 0, 8];
+const SKIPPED_COPIED: &[u8] = &[0xE1, 0, 0, 6, 0x00, 0x20];
+const TWO_REPEATED: &[u8] = &[0xE1, 0, 0, 9, 0x60, 1, 0x60, 2, 0x40];
+
+fn accepted_examples() -> Vec<Example> {
+    // 012456 and 89A37B (hex), three bits a pixel.
+    let half_bytes = [0, 0, 2, 2, 2, 1, 2, 6, 4, 2, 3, 2, 1, 5, 7, 3];
+    let mut lower_left = [3; 16];
+    lower_left[12] = 7;
+    let left_half_twice: Vec<u8> = (0..32)
+        .map(|pixel| 100 + pixel / 8 * 8 + pixel % 4)
+        .collect();
+    let one_two_one_two = [1, 1, 1, 1, 2, 2, 2, 2].repeat(8);
+    let settled = [SETTLED; 4];
+    vec![
+        accepted(1, (4, 4), HALF_BYTES, &half_bytes, &settled[..1]),
+        accepted(2, (8, 4), TWO_FILLED, &[5; 32], &settled[..2]),
+        accepted(6, (4, 4), LOWER_LEFT, &lower_left, &settled[..1]),
+        accepted(11, (8, 4), SKIPPED_COPIED, &left_half_twice, &[0, 0]),
+        accepted(15, (16, 4), TWO_REPEATED, &one_two_one_two, &settled),
+    ]
+}
+
+fn refused_examples() -> Vec<Example> {
+    let fill = &[0xE1, 0, 0, 6, 0x60, 5];
+    vec![
+        refused(3, (4, 4), &[0xE1, 0, 0, 5, 0x20], (8, 4)),
+        refused(4, (4, 4), &[0xE1, 0, 0, 5, 0x01], (9, 4)),
+        refused(5, (4, 4), &[0xE1, 0, 0, 6, 0x90, 0], (10, 4)),
+        refused(7, (4, 4), &[0xE1, 0, 0, 6, 0x00, 0xAA], (11, 5)),
+        refused(8, (4, 4), &[0xE1, 0, 0, 4], (5, 4)),
+        refused(9, (4, 4), &[0xE1, 0, 0, 5, 0x10], (6, 4)),
+        refused(10, (4, 4), &[0xE1, 0, 0, 5, 0xF0], (7, 4)),
+        refused(12, (4, 4), &[], (3, 0)),
+        refused(12, (4, 4), &[0xE1, 0, 0, 7, 0x60, 5], (4, 0)),
+        refused(12, (324, 4), fill, (1, 0)),
+        refused(12, (4, 204), fill, (1, 0)),
+        refused(12, (6, 4), fill, (1, 0)),
+        refused(12, (0, 4), fill, (1, 0)),
+    ]
+}
+
+pub fn check(reader: &Reader) -> Result<(), String> {
+    for example in accepted_examples().iter().chain(&refused_examples()) {
+        check_chunk(reader, example)?;
+    }
+    check_maps(reader, (320, 200), 4_000, 0)?;
+    for (width, height) in [(324, 4), (4, 204), (6, 4), (0, 4)] {
+        check_maps(reader, (width, height), width * height / 16, 1)?;
+    }
+    check_maps(reader, (8, 4), 3, 2)?;
+    check_count(
+        reader,
+        &map_board((16, 4), vec![SETTLED, 0, 7, SETTLED]),
+        0,
+        2,
+    )
+}
+
+fn check_chunk(reader: &Reader, example: &Example) -> Result<(), String> {
+    let (width, height) = example.size;
+    let size = Size { width, height };
+    let picture = lent_picture(width * height);
+    let lent = Board {
+        size,
+        picture,
+        map: fresh(width * height / 16),
+    };
+    let left = match &example.leaves {
+        Some((picture, map)) => &Board {
+            size,
+            picture: picture.clone(),
+            map: map.clone(),
+        },
+        None => &lent,
+    };
+    let (number, place) = example.answer;
+    let found = Outcome::of(&lent, |picture, map| {
+        (reader.read_chunk)(size, example.chunk, picture, map)
+    });
+    let expected = Outcome::of(left, |_, _| Answer { number, place });
+    equal(&found, &expected, || format!("example {}", example.number))
+}
+
+/// A fresh map of that size and its count, each with the given number.
+fn check_maps(
+    reader: &Reader,
+    size: (usize, usize),
+    entries: usize,
+    number: u8,
+) -> Result<(), String> {
+    let lent = map_board(size, vec![SETTLED; entries]);
+    let made = map_board(size, fresh(entries));
+    let left = if number == 0 {
+        made
+    } else {
+        map_board(size, vec![SETTLED; entries])
+    };
+    let found = Outcome::of(&lent, |_, map| (reader.fresh_map)(lent.size, map));
+    let expected = Outcome::of(&left, |_, _| Answer { number, place: 0 });
+    equal(&found, &expected, || format!("fresh map of {size:?}"))?;
+    let unsettled = if number == 0 { entries } else { 0 };
+    check_count(reader, &left, number, unsettled)
+}
+
+fn check_count(reader: &Reader, board: &Board, number: u8, unsettled: usize) -> Result<(), String> {
+    let found = Outcome::of(board, |_, map| (reader.count)(board.size, map));
+    let answer = Answer { number, place: 0 };
+    let expected = Outcome::of(board, |_, _| Count { answer, unsettled });
+    equal(&found, &expected, || format!("count of {:?}", board.size))
+}
+
+fn equal<A: Debug + PartialEq>(
+    found: &Outcome<A>,
+    expected: &Outcome<A>,
+    name: impl FnOnce() -> String,
+) -> Result<(), String> {
+    let differences = found.differences(expected, ["it has", "01 says"]);
+    if differences.is_empty() {
+        return Ok(());
+    }
+    Err(format!("{}: {}", name(), differences.join("; ")))
+}
+
+fn map_board((width, height): (usize, usize), map: Vec<u16>) -> Board {
+    Board {
+        size: Size { width, height },
+        picture: Vec::new(),
+        map,
+    }
+}
+
+fn fresh(entries: usize) -> Vec<u16> {
+    (0..entries as u16).collect()
+}

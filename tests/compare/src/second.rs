@@ -1,0 +1,446 @@
+//! The independent second reader of SMC chunks, written from papers 01 (the rules) and 003 (the
+//! published description) and from nothing of ours.
+//!
+//! A chunk is first parsed whole into commands, with every table entry already replaced by its
+//! colours. Only a chunk without fault is then applied, to a picture held as blocks; so a refused
+//! chunk cannot paint.
+
+/// 01, "Picture, blocks, map": this map entry means settled.
+const SETTLED: u16 = 65_535;
+
+/// 01, "Numbered outcomes", 1 to 11; those found in the opcodes carry their place.
+#[derive(Clone, Copy, Debug)]
+pub enum Refusal {
+    SizeNotAllowed,
+    LentLength,
+    UnderFourBytes,
+    StatedLength,
+    NoMoreOpcodes(usize),
+    CutInside(usize),
+    UnknownOpcode(usize),
+    NoBlockBefore(usize),
+    PastLastBlock(usize),
+    UnfilledEntry(usize),
+    BytesFollow(usize),
+}
+
+impl Refusal {
+    pub fn number_and_place(self) -> (u8, usize) {
+        match self {
+            Refusal::SizeNotAllowed => (1, 0),
+            Refusal::LentLength => (2, 0),
+            Refusal::UnderFourBytes => (3, 0),
+            Refusal::StatedLength => (4, 0),
+            Refusal::NoMoreOpcodes(place) => (5, place),
+            Refusal::CutInside(place) => (6, place),
+            Refusal::UnknownOpcode(place) => (7, place),
+            Refusal::NoBlockBefore(place) => (8, place),
+            Refusal::PastLastBlock(place) => (9, place),
+            Refusal::UnfilledEntry(place) => (10, place),
+            Refusal::BytesFollow(place) => (11, place),
+        }
+    }
+}
+
+/// What one opcode asks for (01, "A chunk").
+pub enum Command {
+    Keep(usize),
+    CopyOneBefore(usize),
+    /// Holds blocks: twice the pairs that the opcode counts.
+    CopyTwoBefore(usize),
+    Fill(usize, u8),
+    Pairs([u8; 2], Vec<[u8; 2]>),
+    Quads([u8; 4], Vec<[u8; 4]>),
+    Octets([u8; 8], Vec<[u8; 6]>),
+    Plain(Vec<[u8; 16]>),
+}
+
+impl Command {
+    pub fn blocks(&self) -> usize {
+        match self {
+            Command::Keep(n) | Command::CopyOneBefore(n) | Command::CopyTwoBefore(n) => *n,
+            Command::Fill(n, _) => *n,
+            Command::Pairs(_, flags) => flags.len(),
+            Command::Quads(_, flags) => flags.len(),
+            Command::Octets(_, flags) => flags.len(),
+            Command::Plain(blocks) => blocks.len(),
+        }
+    }
+}
+
+/// A command with the place of its opcode and the first block whose turn it takes.
+pub struct Step {
+    pub place: usize,
+    pub first: usize,
+    pub command: Command,
+}
+
+/// 01: 1 and 2 are all that a fresh map refuses.
+pub fn fresh_map(width: usize, height: usize, map: &mut [u16]) -> Result<(), Refusal> {
+    check_map(width, height, map)?;
+    for (block, entry) in map.iter_mut().enumerate() {
+        *entry = block as u16;
+    }
+    Ok(())
+}
+
+/// 01: how many entries are not 65,535.
+pub fn count(width: usize, height: usize, map: &[u16]) -> Result<usize, Refusal> {
+    check_map(width, height, map)?;
+    Ok(map.iter().filter(|entry| **entry != SETTLED).count())
+}
+
+/// Reads a chunk over the lent picture and map; gives the commands of an accepted one.
+pub fn read_chunk(
+    (width, height): (usize, usize),
+    chunk: &[u8],
+    picture: &mut [u8],
+    map: &mut [u16],
+) -> Result<Vec<Step>, Refusal> {
+    check_size(width, height)?;
+    if picture.len() != width * height {
+        return Err(Refusal::LentLength);
+    }
+    check_map(width, height, map)?;
+    let steps = parse(chunk, map.len())?;
+    let mut blocks = cut_into_blocks(width, picture, map);
+    for step in &steps {
+        apply(&mut blocks, step);
+    }
+    put_blocks_back(&blocks, width, picture, map);
+    Ok(steps)
+}
+
+fn check_size(width: usize, height: usize) -> Result<(), Refusal> {
+    let allowed =
+        |extent: usize, most: usize| (4..=most).contains(&extent) && extent.is_multiple_of(4);
+    if allowed(width, 320) && allowed(height, 200) {
+        Ok(())
+    } else {
+        Err(Refusal::SizeNotAllowed)
+    }
+}
+
+fn check_map(width: usize, height: usize, map: &[u16]) -> Result<(), Refusal> {
+    check_size(width, height)?;
+    if map.len() == (width / 4) * (height / 4) {
+        Ok(())
+    } else {
+        Err(Refusal::LentLength)
+    }
+}
+
+/// One of the three colour tables. All that was stored is kept in order: as the entry after 255 is
+/// entry 0 again, entry e is the last one stored whose position leaves e when divided by 256.
+struct Table<const COLOURS: usize>(Vec<[u8; COLOURS]>);
+
+impl<const COLOURS: usize> Table<COLOURS> {
+    fn entry(&self, number: u8) -> Option<[u8; COLOURS]> {
+        self.0
+            .iter()
+            .skip(usize::from(number))
+            .step_by(256)
+            .next_back()
+            .copied()
+    }
+}
+
+struct Parser<'a> {
+    chunk: &'a [u8],
+    /// The next byte to take.
+    next: usize,
+    /// Where the opcode in hand stands.
+    place: usize,
+    /// Blocks that have had their turn, and all blocks of the picture.
+    done: usize,
+    blocks: usize,
+    pairs: Table<2>,
+    quads: Table<4>,
+    octets: Table<8>,
+}
+
+fn parse(chunk: &[u8], blocks: usize) -> Result<Vec<Step>, Refusal> {
+    let [_, high, middle, low, ..] = *chunk else {
+        return Err(Refusal::UnderFourBytes);
+    };
+    let stated = usize::from(high) * 65_536 + usize::from(middle) * 256 + usize::from(low);
+    if stated != chunk.len() {
+        return Err(Refusal::StatedLength);
+    }
+    let mut parser = Parser {
+        chunk,
+        next: 4,
+        place: 4,
+        done: 0,
+        blocks,
+        pairs: Table(Vec::new()),
+        quads: Table(Vec::new()),
+        octets: Table(Vec::new()),
+    };
+    let mut steps = Vec::new();
+    while parser.done < blocks {
+        let first = parser.done;
+        let command = parser.command()?;
+        steps.push(Step {
+            place: parser.place,
+            first,
+            command,
+        });
+    }
+    if parser.next < chunk.len() {
+        return Err(Refusal::BytesFollow(parser.next));
+    }
+    Ok(steps)
+}
+
+impl Parser<'_> {
+    /// 01's order within one opcode: 5, 7, the count byte (6), 8, 9, colour bytes or entry number
+    /// (6), 10, remaining bytes (6).
+    fn command(&mut self) -> Result<Command, Refusal> {
+        self.place = self.next;
+        let opcode = *self
+            .chunk
+            .get(self.place)
+            .ok_or(Refusal::NoMoreOpcodes(self.place))?;
+        self.next += 1;
+        match opcode >> 4 {
+            upper @ 0x0..=0x7 => {
+                // Odd ones count in a byte of their own; their lower half-byte says nothing.
+                let counted = if upper.is_multiple_of(2) {
+                    opcode & 15
+                } else {
+                    self.take::<1>()?[0]
+                };
+                self.run(upper, 1 + usize::from(counted))
+            }
+            0xF => Err(Refusal::UnknownOpcode(self.place)),
+            upper => self.drawing(upper, 1 + usize::from(opcode & 15)),
+        }
+    }
+
+    fn run(&mut self, upper: u8, n: usize) -> Result<Command, Refusal> {
+        match upper {
+            0x0 | 0x1 => {
+                self.turns(n)?;
+                Ok(Command::Keep(n))
+            }
+            0x2 | 0x3 => {
+                self.needs_before(1)?;
+                self.turns(n)?;
+                Ok(Command::CopyOneBefore(n))
+            }
+            0x4 | 0x5 => {
+                self.needs_before(2)?;
+                self.turns(2 * n)?;
+                Ok(Command::CopyTwoBefore(2 * n))
+            }
+            _ => {
+                self.turns(n)?;
+                let [colour] = self.take()?;
+                Ok(Command::Fill(n, colour))
+            }
+        }
+    }
+
+    fn drawing(&mut self, upper: u8, n: usize) -> Result<Command, Refusal> {
+        self.turns(n)?;
+        match upper {
+            0x8 | 0xA | 0xC => self.storing(upper, n),
+            0x9 | 0xB | 0xD => self.naming(upper, n),
+            _ => Ok(Command::Plain(self.take_each(n)?)),
+        }
+    }
+
+    fn storing(&mut self, upper: u8, n: usize) -> Result<Command, Refusal> {
+        match upper {
+            0x8 => {
+                let colours = self.take()?;
+                self.pairs.0.push(colours);
+                Ok(Command::Pairs(colours, self.take_each(n)?))
+            }
+            0xA => {
+                let colours = self.take()?;
+                self.quads.0.push(colours);
+                Ok(Command::Quads(colours, self.take_each(n)?))
+            }
+            _ => {
+                let colours = self.take()?;
+                self.octets.0.push(colours);
+                Ok(Command::Octets(colours, self.take_each(n)?))
+            }
+        }
+    }
+
+    fn naming(&mut self, upper: u8, n: usize) -> Result<Command, Refusal> {
+        let [entry] = self.take()?;
+        let unfilled = Refusal::UnfilledEntry(self.place);
+        match upper {
+            0x9 => {
+                let colours = self.pairs.entry(entry).ok_or(unfilled)?;
+                Ok(Command::Pairs(colours, self.take_each(n)?))
+            }
+            0xB => {
+                let colours = self.quads.entry(entry).ok_or(unfilled)?;
+                Ok(Command::Quads(colours, self.take_each(n)?))
+            }
+            _ => {
+                let colours = self.octets.entry(entry).ok_or(unfilled)?;
+                Ok(Command::Octets(colours, self.take_each(n)?))
+            }
+        }
+    }
+
+    fn needs_before(&self, blocks: usize) -> Result<(), Refusal> {
+        if self.done < blocks {
+            return Err(Refusal::NoBlockBefore(self.place));
+        }
+        Ok(())
+    }
+
+    fn turns(&mut self, blocks: usize) -> Result<(), Refusal> {
+        if blocks > self.blocks - self.done {
+            return Err(Refusal::PastLastBlock(self.place));
+        }
+        self.done += blocks;
+        Ok(())
+    }
+
+    fn take<const BYTES: usize>(&mut self) -> Result<[u8; BYTES], Refusal> {
+        let taken = self.chunk[self.next..]
+            .first_chunk()
+            .ok_or(Refusal::CutInside(self.place))?;
+        self.next += BYTES;
+        Ok(*taken)
+    }
+
+    fn take_each<const BYTES: usize>(&mut self, n: usize) -> Result<Vec<[u8; BYTES]>, Refusal> {
+        (0..n).map(|_| self.take()).collect()
+    }
+}
+
+#[derive(Clone, Copy)]
+struct Block {
+    pixels: [u8; 16],
+    /// The map's entry, which travels with the pixels.
+    entry: u16,
+}
+
+/// 01: blocks are numbered left to right, then down; 003: pixels within one row by row.
+fn cut_into_blocks(width: usize, picture: &[u8], map: &[u16]) -> Vec<Block> {
+    let mut blocks: Vec<Block> = Vec::with_capacity(map.len());
+    blocks.extend(map.iter().map(|&entry| Block {
+        pixels: [0; 16],
+        entry,
+    }));
+    let lines = picture
+        .chunks_exact(4 * width)
+        .zip(blocks.chunks_exact_mut(width / 4));
+    for (pixels, line) in lines {
+        for (y, row) in pixels.chunks_exact(width).enumerate() {
+            for (block, four) in line.iter_mut().zip(row.chunks_exact(4)) {
+                block.pixels[4 * y..4 * y + 4].copy_from_slice(four);
+            }
+        }
+    }
+    blocks
+}
+
+fn put_blocks_back(blocks: &[Block], width: usize, picture: &mut [u8], map: &mut [u16]) {
+    for (entry, block) in map.iter_mut().zip(blocks) {
+        *entry = block.entry;
+    }
+    let lines = picture
+        .chunks_exact_mut(4 * width)
+        .zip(blocks.chunks_exact(width / 4));
+    for (pixels, line) in lines {
+        for (y, row) in pixels.chunks_exact_mut(width).enumerate() {
+            for (block, four) in line.iter().zip(row.chunks_exact_mut(4)) {
+                four.copy_from_slice(&block.pixels[4 * y..4 * y + 4]);
+            }
+        }
+    }
+}
+
+/// 01: copies work block by block in order, on the picture as made so far; 6 to E settle.
+fn apply(blocks: &mut [Block], step: &Step) {
+    let turns = step.first..step.first + step.command.blocks();
+    match &step.command {
+        Command::Keep(_) => {}
+        Command::CopyOneBefore(_) => turns.for_each(|block| blocks[block] = blocks[block - 1]),
+        Command::CopyTwoBefore(_) => turns.for_each(|block| blocks[block] = blocks[block - 2]),
+        Command::Fill(_, colour) => {
+            blocks[turns].fill(Block {
+                pixels: [*colour; 16],
+                entry: SETTLED,
+            });
+        }
+        Command::Pairs(colours, flags) => {
+            settle(
+                &mut blocks[turns],
+                flags.iter().map(|two| pair_pixels(colours, *two)),
+            );
+        }
+        Command::Quads(colours, flags) => {
+            settle(
+                &mut blocks[turns],
+                flags.iter().map(|four| quad_pixels(colours, *four)),
+            );
+        }
+        Command::Octets(colours, flags) => {
+            settle(
+                &mut blocks[turns],
+                flags.iter().map(|six| octet_pixels(colours, *six)),
+            );
+        }
+        Command::Plain(plain) => settle(&mut blocks[turns], plain.iter().copied()),
+    }
+}
+
+fn settle(blocks: &mut [Block], drawn: impl Iterator<Item = [u8; 16]>) {
+    for (block, pixels) in blocks.iter_mut().zip(drawn) {
+        *block = Block {
+            pixels,
+            entry: SETTLED,
+        };
+    }
+}
+
+/// 003: a7 is the upper left pixel, b3 the lower left.
+fn pair_pixels(colours: &[u8; 2], flags: [u8; 2]) -> [u8; 16] {
+    let bits = u16::from_be_bytes(flags);
+    std::array::from_fn(|pixel| colours[usize::from(bits >> (15 - pixel) & 1)])
+}
+
+/// 003: one flag byte a row, the upper two bits leftmost.
+fn quad_pixels(colours: &[u8; 4], flags: [u8; 4]) -> [u8; 16] {
+    std::array::from_fn(|pixel| {
+        let row = flags[pixel / 4];
+        colours[usize::from(row >> (6 - 2 * (pixel % 4)) & 3)]
+    })
+}
+
+/// 003: bits 23 to 21 of the first number are the first pixel, of the second the ninth.
+fn octet_pixels(colours: &[u8; 8], flags: [u8; 6]) -> [u8; 16] {
+    let numbers = octet_numbers(flags);
+    std::array::from_fn(|pixel| {
+        let number = numbers[pixel / 8];
+        colours[(number >> (21 - 3 * (pixel % 8)) & 7) as usize]
+    })
+}
+
+/// 01: n0 n1 n2 n4 n5 n6 and n8 n9 nA n3 n7 nB, each as a 24-bit number.
+pub fn octet_numbers(flags: [u8; 6]) -> [u32; 2] {
+    let half = |n: usize| {
+        let byte = u32::from(flags[n / 2]);
+        if n.is_multiple_of(2) {
+            byte >> 4
+        } else {
+            byte & 15
+        }
+    };
+    let joined = |order: [usize; 6]| order.iter().fold(0, |number, &n| number << 4 | half(n));
+    [
+        joined([0x0, 0x1, 0x2, 0x4, 0x5, 0x6]),
+        joined([0x8, 0x9, 0xA, 0x3, 0x7, 0xB]),
+    ]
+}

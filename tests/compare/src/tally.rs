@@ -1,0 +1,167 @@
+//! What the compared chunks had in them, so that a run which missed something says so.
+
+use crate::compare::Comparison;
+use crate::generate::Case;
+use crate::second::{Command, Step};
+
+/// 01, "Numbered outcomes": those that reading a chunk can have.
+const MEANINGS: [&str; 12] = [
+    "accepted",
+    "width or height not allowed",
+    "a lent picture or map is not of the exact length",
+    "chunk under 4 bytes",
+    "stated length differs from the bytes given",
+    "bytes end before an opcode, blocks remain",
+    "bytes end inside an opcode",
+    "opcode F",
+    "copy with no such block before",
+    "opcode runs past the last block",
+    "entry not filled in this chunk",
+    "bytes follow the last block",
+];
+
+const TABLES: [&str; 3] = ["pair", "quad", "octet"];
+
+/// The opcodes that count in a byte of their own, with the most blocks each can take.
+const LONGEST_RUNS: [(u8, usize); 4] = [(0x1, 256), (0x3, 256), (0x5, 512), (0x7, 256)];
+
+#[derive(Default)]
+pub struct Tally {
+    /// Cases that got each number.
+    pub numbers: [usize; 12],
+    /// Accepted chunks that used each opcode, 0 to E.
+    opcodes: [usize; 15],
+    /// Accepted chunks that stored past entry 255 of each table.
+    wrapped: [usize; 3],
+    /// Accepted chunks that, after that, named an entry stored before it.
+    old_entry_named: [usize; 3],
+    /// Runs of the greatest length in accepted chunks, as in `LONGEST_RUNS`.
+    longest_runs: [usize; 4],
+    /// Copying opcodes in accepted chunks: those that reached across a line's end, and those that
+    /// took a block skipped in the same chunk.
+    copies_across_lines: usize,
+    copies_of_skipped: usize,
+}
+
+impl Tally {
+    /// A refused chunk has no steps and so adds to nothing but the numbers.
+    pub fn add(&mut self, Case { board, chunk }: &Case, compared: &Comparison) {
+        self.numbers[usize::from(compared.answer.number)] += 1;
+        self.add_opcodes(chunk, &compared.steps);
+        self.add_tables(chunk, &compared.steps);
+        self.add_copies(board.size.width / 4, &compared.steps);
+    }
+
+    fn add_opcodes(&mut self, chunk: &[u8], steps: &[Step]) {
+        let mut used = [false; 15];
+        for step in steps {
+            let upper = chunk[step.place] >> 4;
+            used[usize::from(upper)] = true;
+            let run = (upper, step.command.blocks());
+            if let Some(which) = LONGEST_RUNS.iter().position(|longest| *longest == run) {
+                self.longest_runs[which] += 1;
+            }
+        }
+        for (opcode, used) in self.opcodes.iter_mut().zip(used) {
+            *opcode += usize::from(used);
+        }
+    }
+
+    fn add_tables(&mut self, chunk: &[u8], steps: &[Step]) {
+        for (table, (storing, naming)) in [(0x8, 0x9), (0xA, 0xB), (0xC, 0xD)].iter().enumerate() {
+            let mut stored = 0;
+            let mut old_named = false;
+            for step in steps {
+                let upper = chunk[step.place] >> 4;
+                if upper == *storing {
+                    stored += 1;
+                } else if upper == *naming {
+                    let entry = usize::from(chunk[step.place + 1]);
+                    old_named |= stored > 256 && entry >= stored % 256;
+                }
+            }
+            self.wrapped[table] += usize::from(stored > 256);
+            self.old_entry_named[table] += usize::from(old_named);
+        }
+    }
+
+    fn add_copies(&mut self, blocks_a_line: usize, steps: &[Step]) {
+        let mut skipped = Vec::new();
+        for step in steps {
+            let blocks = step.command.blocks();
+            let back = match step.command {
+                Command::CopyOneBefore(_) => Some(1),
+                Command::CopyTwoBefore(_) => Some(2),
+                _ => None,
+            };
+            if let Some(back) = back {
+                let line = |block: usize| block / blocks_a_line;
+                let mut turns = step.first..step.first + blocks;
+                let across = turns.any(|block| line(block - back) != line(block));
+                self.copies_across_lines += usize::from(across);
+                self.copies_of_skipped += usize::from(skipped[step.first - back..].contains(&true));
+            }
+            let keeps = matches!(step.command, Command::Keep(_));
+            skipped.resize(step.first + blocks, keeps);
+        }
+    }
+
+    pub fn opcode_counts(&self) -> Counts {
+        let name = |upper| format!("accepted chunks with opcode {upper:X}");
+        named(self.opcodes, name)
+    }
+
+    pub fn wrap_counts(&self) -> Counts {
+        let wrapped = |table: usize| {
+            format!(
+                "accepted chunks storing past entry 255 of the {} table",
+                TABLES[table]
+            )
+        };
+        let old = |table: usize| {
+            format!(
+                "of these, naming an old entry of the {} table after that",
+                TABLES[table]
+            )
+        };
+        [
+            named(self.wrapped, wrapped),
+            named(self.old_entry_named, old),
+        ]
+        .concat()
+    }
+
+    pub fn longest_run_counts(&self) -> Counts {
+        named(self.longest_runs, |which: usize| {
+            let (upper, blocks) = LONGEST_RUNS[which];
+            format!("runs of {blocks} blocks under opcode {upper:X}")
+        })
+    }
+
+    pub fn copy_counts(&self) -> Counts {
+        vec![
+            (
+                "copies across a line's end".into(),
+                self.copies_across_lines,
+            ),
+            ("copies from a skipped block".into(), self.copies_of_skipped),
+        ]
+    }
+}
+
+/// Things that occurred, and how often.
+pub type Counts = Vec<(String, usize)>;
+
+pub fn number_counts<const N: usize>(times: &[usize; N]) -> Counts {
+    named(*times, |number: usize| {
+        format!("number {number}: {}", MEANINGS[number])
+    })
+}
+
+fn named<const N: usize>(times: [usize; N], name: impl Fn(usize) -> String) -> Counts {
+    times
+        .into_iter()
+        .enumerate()
+        .map(|(which, times)| (name(which), times))
+        .collect()
+}
