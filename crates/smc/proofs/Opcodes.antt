@@ -1,6 +1,7 @@
 -- The opcode at a place of an accepted chunk, by its kind. Assumes nothing.
 use Prim.Native.Nat.{ℕ, suc, _+_, _*_, _<_, _≤_}
-use mathlib.Core.Path.{_≡_, refl, sym, ap, subst}
+use mathlib.Core.Path.{_≡_, refl, sym, ap, subst, _∙_}
+use mathlib.Core.Logic.{_≢_}
 use mathlib.Core.List.{List}
 use native.Mathlib.Decide.{ℕ-discrete}
 use native.Mathlib.Omega.{arith}
@@ -8,7 +9,7 @@ use lib.ListN.{length}
 use Rattle.spec.specs.Chunks.{Kind, kindOf, times, reach, once, each, stores, upperAt, bodyAt}
 use Rattle.spec.proofs.Computed.{agree-at}
 use Rattle.smc.specs.declared.heads.Lead.{Lead}
-use Rattle.smc.specs.Heads.{leadAt}
+use Rattle.smc.specs.Heads.{Leads}
 use Rattle.smc.specs.Painting.{kindAt, Room}
 
 -- its kind, by the upper half-byte
@@ -38,5 +39,29 @@ pub record Facts (n : ℕ) (s : List ℕ) (k : ℕ) (x : Kind) (count body : ℕ
   pub within : k + times x * count ≤ n
   pub inside : body + once x + each x * (times x * count) ≤ length s
 
-pub facts : (n : ℕ) (s : List ℕ) (at k : ℕ) → Room n s at k → (x : Kind) → kindAt s at ≡ x → (l : Lead) → l ≡ leadAt s at → Facts n s k x (l .count) (l .body)
-facts n s at k g x e l el = record { before = rw e at (g .before); within = rw el (rw e at (g .within)); inside = rw el (rw e at (g .inside)) }
+module _ {n : ℕ} {s : List ℕ} {at k : ℕ} {l : Lead} (g : Room n s at k) (el : Leads s at l) where
+  facts : {x : Kind} → kindAt s at ≡ x → Facts n s k x (l .count) (l .body)
+  facts e = record { before = rw e at (g .before); within = rw (el .count) (rw e at (g .within)); inside = rw (el .count, el .body) (rw e at (g .inside)) }
+
+  -- its upper half-byte is u; or it is one of u and the next, and not u; or it is one of two that mean the same
+  pub kind-of : {u : ℕ} → l .upper ≡ u → kindAt s at ≡ kindOf u
+  kind-of {u} e = kind-is s at u (sym (el .upper) ∙ e)
+
+  pub facts-of : {u : ℕ} → l .upper ≡ u → Facts n s k (kindOf u) (l .count) (l .body)
+  facts-of e = facts (kind-of e)
+
+  pub kind-other : {u : ℕ} → l .upper ≢ u → (u ≤ upperAt s at) × (upperAt s at < u + 2) → kindAt s at ≡ kindOf (suc u)
+  kind-other {u} ne h = kind-is s at (suc u) (omega (arith, el .upper, h .0, h .1))
+
+  pub facts-other : {u : ℕ} → l .upper ≢ u → (u ≤ upperAt s at) × (upperAt s at < u + 2) → Facts n s k (kindOf (suc u)) (l .count) (l .body)
+  facts-other ne h = facts (kind-other ne h)
+
+  pub kind-two : (u : ℕ) (x : Kind) → u ≤ l .upper → l .upper < u + 2 → kindOf u ≡ x → kindOf (suc u) ≡ x → kindAt s at ≡ x
+  kind-two u x h h′ e e′ = kind-either s at u (omega (arith, el .upper)) (omega (arith, el .upper)) x e e′
+
+  pub facts-two : (u : ℕ) (x : Kind) → u ≤ l .upper → l .upper < u + 2 → kindOf u ≡ x → kindOf (suc u) ≡ x → Facts n s k x (l .count) (l .body)
+  facts-two u x h h′ e e′ = facts (kind-two u x h h′ e e′)
+
+  -- only E is left where F is known not to be there
+  pub is-whole : 14 ≤ upperAt s at → l .upper ≡ 14
+  is-whole h = omega (arith, el .upper, g .known)

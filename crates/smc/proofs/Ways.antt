@@ -12,33 +12,36 @@ use Rattle.spec.specs.Chunks.{kindOf, times, reach, once, each, missing, body, 
 use Rattle.spec.proofs.Heads.{body-none-before, body-past, body-cut-once, body-empty, body-cut, body-runs, opcode-unknown, opcode-cut, opcode-body}
 use Rattle.smc.specs.declared.check.Head.the-variants.{Bad, Runs}
 use Rattle.smc.specs.declared.heads.Lead.{Lead}
-use Rattle.smc.specs.Heads.{leadAt}
-use Rattle.smc.specs.Checking.{spanOf, Tells, bad, runs}
+use Rattle.smc.specs.Heads.{Leads}
+use Rattle.smc.specs.Checking.{spanOf, Stands, Ends, Tells, bad, runs}
 use Rattle.smc.proofs.Counting.{span-end, unknown-span, times-small, count-small}
 
 -- an opcode whose bytes all stand in the chunk has its count there, and its bytes that come once
-module _ (s : List ℕ) (at : ℕ) (byte : getD s at 0 < 256) (room : at + spanOf (getD s at 0) ≤ length s) where
-  pub once-within : bodyAt s at + once (kindOf (upperAt s at)) ≤ length s
-  once-within = omega (arith, span-end s at byte)
+module _ {s : List ℕ} {at span : ℕ} (g : Stands s at span) (byte : getD s at 0 < 256) where
+  pub stands-room : at + spanOf (getD s at 0) ≤ length s
+  stands-room = rw (← g .is) (g .room)
 
-  pub body-within : bodyAt s at ≤ length s
-  body-within = omega (arith, span-end s at byte)
+  pub stands-body : bodyAt s at ≤ length s
+  stands-body = omega (arith, span-end s at byte, stands-room)
+
+  pub stands-once : {l : Lead} → Leads s at l → l .body + once (kindOf (l .upper)) ≤ length s
+  stands-once el = rw (el .upper, el .body) (omega (arith, span-end s at byte, stands-room))
 
 -- F takes no byte after its own, so that the bytes cannot end inside it
-pub cut-known : (s : List ℕ) (at : ℕ) → getD s at 0 < 256 → at < length s → length s < at + spanOf (getD s at 0) → upperAt s at < 15
-cut-known s at byte l h = by (decLt (upperAt s at) 15)
+pub ends-known : {s : List ℕ} {at : ℕ} → Ends s at → getD s at 0 < 256 → upperAt s at < 15
+ends-known {s} {at} g byte = by (decLt (upperAt s at) 15)
   where
     by : Dec (upperAt s at < 15) → upperAt s at < 15
     by (yes k) = k
-    by (no k) = absurd (omega (arith, unknown-span s at byte (omega arith)))
+    by (no k) = absurd (omega (arith, unknown-span s at byte (omega arith), g .start, g .short))
 
 -- the lead's numbers are small
-module _ (s : List ℕ) (at : ℕ) (l : Lead) (el : l ≡ leadAt s at) where
+module _ {s : List ℕ} {at : ℕ} {l : Lead} (el : Leads s at l) where
   pub upper-small : getD s at 0 < 256 → l .upper < 16
-  upper-small h = rw el (omega arith)
+  upper-small h = rw (el .upper) (omega arith)
 
-  pub blocks-small : getD s at 0 < 256 → getD s (at + 1) 0 < 256 → (t : ℕ) → t ≡ times (kindOf (l .upper)) → t * l .count ≤ 2 * 256
-  blocks-small h g t et = mul-le-mul {n₂ = 2} {m₂ = 256} (rw et (times-small (l .upper) (upper-small h))) (rw el (count-small s at g))
+  pub blocks-small : getD s at 0 < 256 → getD s (at + 1) 0 < 256 → {t : ℕ} → t ≡ times (kindOf (l .upper)) → t * l .count ≤ 2 * 256
+  blocks-small h g {t} et = mul-le-mul {n₂ = 2} {m₂ = 256} (rw et (times-small (l .upper) (upper-small h))) (rw (el .count) (count-small s at g))
 
 module _ (n : ℕ) (s : List ℕ) (at k : ℕ) (filled : List ℕ) where
   pub way-unknown : 15 ≤ upperAt s at → Tells s at (Bad opcodeUnknown) (opcode n s at k filled)
@@ -48,9 +51,9 @@ module _ (n : ℕ) (s : List ℕ) (at k : ℕ) (filled : List ℕ) where
   way-cut-count l h = rw (opcode-cut n s at k filled l h) bad
 
   -- l is the lead, and r, t and o the numbers for `reach`, `times` and `once`
-  module _ (l : Lead) (el : l ≡ leadAt s at) (known : l .upper < 15) (count : l .body ≤ length s) (r : ℕ) (er : r ≡ reach (kindOf (l .upper))) where
+  module _ (l : Lead) (el : Leads s at l) (known : l .upper < 15) (count : l .body ≤ length s) (r : ℕ) (er : r ≡ reach (kindOf (l .upper))) where
     is-body : opcode n s at k filled ≡ body n s k filled (l .upper) (l .count) (l .body)
-    is-body = rw el (opcode-body n s at k filled (rw el at known) (rw el at count))
+    is-body = rw (el .upper, el .count, el .body) (opcode-body n s at k filled (rw (el .upper) at known) (rw (el .body) at count))
 
     pub way-none-before : k < r → Tells s at (Bad noneBefore) (opcode n s at k filled)
     way-none-before h = rw (is-body ∙ body-none-before n s k filled (l .upper) (l .count) (l .body) r er h) bad
@@ -69,7 +72,7 @@ module _ (n : ℕ) (s : List ℕ) (at k : ℕ) (filled : List ℕ) where
 
           module _ (z : missing filled (kindOf (l .upper)) (getD s (l .body) 0) ≡ false) (byte : getD s at 0 < 256) where
             end : l .body + once (kindOf (l .upper)) + each (kindOf (l .upper)) * (t * l .count) ≡ at + spanOf (getD s at 0)
-            end = rw (et, el) (span-end s at byte)
+            end = rw (et, el .upper, el .count, el .body) (span-end s at byte)
 
             pub way-cut : length s < at + spanOf (getD s at 0) → Tells s at (Bad opcodeCut) (opcode n s at k filled)
             way-cut h = rw (is-body ∙ body-cut n s k filled (l .upper) (l .count) (l .body) r er a t et b _ refl d z _ refl (rw end h)) bad
@@ -77,7 +80,7 @@ module _ (n : ℕ) (s : List ℕ) (at k : ℕ) (filled : List ℕ) where
             pub way-runs : at + spanOf (getD s at 0) ≤ length s → (next : ℕ) → next ≡ at + spanOf (getD s at 0)
                 → Tells s at (Runs (l .upper) (t * l .count) next) (opcode n s at k filled)
             way-runs h next en =
-                let eb : l .body ≡ bodyAt s at = rw el in
+                let eb = el .body in
                 let hu : l .upper < 16 = omega arith in
                 rw (is-body ∙ body-runs n s k filled (l .upper) (l .count) (l .body) r er a t et b _ refl d z _ refl (rw end h), eb)
                 (runs {m = t * l .count} {next = next} hu (rw (← eb) (en ∙ sym end)))

@@ -1,9 +1,9 @@
 -- What the check pass goes by. Assumes nothing.
-use Prim.Native.Nat.{ℕ, _+_, _*_, _/_, _%_, _<_}
+use Prim.Native.Nat.{ℕ, _+_, _*_, _/_, _%_, _<_, _≤_}
 use mathlib.Core.Path.{_≡_}
 use mathlib.Core.List.{List, [], _∷_}
 use lib.Dec.{eqb, ltb}
-use lib.ListN.{getD}
+use lib.ListN.{length, getD}
 use Rattle.spec.specs.Basics.{if}
 use Rattle.spec.specs.Chunks as Chunks
 use Rattle.spec.specs.Chunks.{kindOf, counted, times, once, each, capacity, bodyAt}
@@ -20,6 +20,16 @@ spanOf b =
 abbrev pub Spans : List ℕ → Type 0
 Spans l = (b : ℕ) → b < 256 → getD l b 0 ≡ spanOf b
 
+-- all bytes of the opcode at s[at], or not all of them
+pub record Stands (s : List ℕ) (at span : ℕ) : Type 0 where
+  pub start : at < length s
+  pub is : span ≡ spanOf (getD s at 0)
+  pub room : at + span ≤ length s
+
+pub record Ends (s : List ℕ) (at : ℕ) : Type 0 where
+  pub start : at < length s
+  pub short : length s < at + spanOf (getD s at 0)
+
 -- how many entries are filled, of so many stored
 unfoldable pub capped : ℕ → ℕ
 capped x = if (ltb x capacity) x capacity
@@ -28,6 +38,7 @@ capped x = if (ltb x capacity) x capacity
 abbrev pub fillsOf : Filled → List ℕ
 fillsOf f = 0 ∷ capped (f .pairs) ∷ capped (f .quads) ∷ capped (f .octets) ∷ []
 
+-- after an opcode u: one entry more in the table in which it stores, which is that of the opcode v
 unfoldable pub bumped : ℕ → ℕ → ℕ → ℕ
 bumped x u v = if (eqb u v) (x + 1) x
 

@@ -1,8 +1,11 @@
--- Opcodes as the code reads them. Assumes nothing.
+-- The lead of an opcode, as the code reads it. Assumes nothing.
 use Prim.Native.Nat.{ℕ}
+use mathlib.Core.Path.{_≡_}
 use mathlib.Core.List.{List}
 use Rattle.spec.specs.Chunks.{upperAt, countAt, bodyAt}
 use Rattle.smc.specs.declared.heads.Lead.{Lead}
 
-abbrev pub leadAt : List ℕ → ℕ → Lead
-leadAt s at = record { upper = upperAt s at; count = countAt s at; body = bodyAt s at }
+pub record Leads (s : List ℕ) (at : ℕ) (l : Lead) : Type 0 where
+  pub upper : l .upper ≡ upperAt s at
+  pub count : l .count ≡ countAt s at
+  pub body : l .body ≡ bodyAt s at

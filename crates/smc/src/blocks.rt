@@ -1,11 +1,12 @@
-// A picture's blocks: where one stands, and putting, getting and copying one. A block is held as four rows of four pixels.
+// A picture's blocks: where one stands, and putting and getting one. A block is held as four rows of four pixels. Here and in the modules
+// above, c is how many blocks stand to a line, r how many lines of them there are, and k a block's number.
 ghost use mathlib.Core.Path.{_≡_};
 ghost use mathlib.Core.List.{[], _∷_};
 ghost use Prim.Native.Nat.{_+_, _*_, _≤_, _<_};
-ghost use lib.ListN.{length, getD, set};
+ghost use lib.ListN.{length};
 ghost use lib.Seq.{sets};
 ghost use Rattle.spec.specs.Sizes.{maxColumns, maxBlocks, maxWidth};
-ghost use Rattle.spec.specs.Pictures.{place, blockAt, putBlock};
+ghost use Rattle.spec.specs.Pictures.{place, putBlock};
 ghost use Rattle.smc.specs.Blocks.{rowOf, pixels, row, rows, Canvas};
 
 // Four rows of four pixels each, the first pixel of a row lowest.

@@ -1,13 +1,15 @@
-// The check pass: it decides the answer to a chunk, and writes nothing.
+// The check pass: it decides the answer to a chunk, and writes nothing. Here s is the chunk, s[at] its next opcode, k how many of the blocks
+// have had their turn, and f how many entries are stored in each table.
 use crate::heads;
+use crate::spans;
 use spec::Answer;
 ghost use mathlib.Core.Path.{_≡_};
-ghost use Prim.Native.Nat.{_+_, _*_, _^_, _≤_, _<_};
+ghost use Prim.Native.Nat.{_+_, _^_, _≤_, _<_};
 ghost use lib.ListN.{length, getD};
 ghost use Rattle.spec.specs.Basics.{part};
 ghost use Rattle.spec.specs.Flags.{number};
-ghost use Rattle.spec.specs.Chunks.{kindOf, times, reach, once, missing, opcode, decode, verdict, upperAt};
-ghost use Rattle.smc.specs.Checking.{spanOf, Spans, bumped, grown, fillsOf, Tells};
+ghost use Rattle.spec.specs.Chunks.{kindOf, times, reach, once, missing, opcode, decode, verdict};
+ghost use Rattle.smc.specs.Checking.{Spans, Stands, Ends, bumped, grown, fillsOf, Tells};
 
 // What the upper half-byte of an opcode asks for, 0 to F: blocks to a count, blocks that must stand before, bytes that come once.
 const TIMES: [u8; 16] = [1, 1, 1, 1, 2, 2, 1, 1, 1, 1, 1, 1, 1, 1, 1, 1];
@@ -16,266 +18,7 @@ const REACH: [u8; 16] = [0, 0, 1, 1, 2, 2, 0, 0, 0, 0, 0, 0, 0, 0, 0, 0];
 
 const ONCE: [u8; 16] = [0, 0, 0, 0, 0, 0, 1, 1, 2, 1, 4, 1, 8, 1, 0, 0];
 
-// How many bytes an opcode takes in all, by its first byte: those with a count byte have no bytes for each block. One row an upper half-byte.
-const SPANS: [u16; 256] = [
-    1,
-    1,
-    1,
-    1,
-    1,
-    1,
-    1,
-    1,
-    1,
-    1,
-    1,
-    1,
-    1,
-    1,
-    1,
-    1,
-    2,
-    2,
-    2,
-    2,
-    2,
-    2,
-    2,
-    2,
-    2,
-    2,
-    2,
-    2,
-    2,
-    2,
-    2,
-    2,
-    1,
-    1,
-    1,
-    1,
-    1,
-    1,
-    1,
-    1,
-    1,
-    1,
-    1,
-    1,
-    1,
-    1,
-    1,
-    1,
-    2,
-    2,
-    2,
-    2,
-    2,
-    2,
-    2,
-    2,
-    2,
-    2,
-    2,
-    2,
-    2,
-    2,
-    2,
-    2,
-    1,
-    1,
-    1,
-    1,
-    1,
-    1,
-    1,
-    1,
-    1,
-    1,
-    1,
-    1,
-    1,
-    1,
-    1,
-    1,
-    2,
-    2,
-    2,
-    2,
-    2,
-    2,
-    2,
-    2,
-    2,
-    2,
-    2,
-    2,
-    2,
-    2,
-    2,
-    2,
-    2,
-    2,
-    2,
-    2,
-    2,
-    2,
-    2,
-    2,
-    2,
-    2,
-    2,
-    2,
-    2,
-    2,
-    2,
-    2,
-    3,
-    3,
-    3,
-    3,
-    3,
-    3,
-    3,
-    3,
-    3,
-    3,
-    3,
-    3,
-    3,
-    3,
-    3,
-    3,
-    5,
-    7,
-    9,
-    11,
-    13,
-    15,
-    17,
-    19,
-    21,
-    23,
-    25,
-    27,
-    29,
-    31,
-    33,
-    35,
-    4,
-    6,
-    8,
-    10,
-    12,
-    14,
-    16,
-    18,
-    20,
-    22,
-    24,
-    26,
-    28,
-    30,
-    32,
-    34,
-    9,
-    13,
-    17,
-    21,
-    25,
-    29,
-    33,
-    37,
-    41,
-    45,
-    49,
-    53,
-    57,
-    61,
-    65,
-    69,
-    6,
-    10,
-    14,
-    18,
-    22,
-    26,
-    30,
-    34,
-    38,
-    42,
-    46,
-    50,
-    54,
-    58,
-    62,
-    66,
-    15,
-    21,
-    27,
-    33,
-    39,
-    45,
-    51,
-    57,
-    63,
-    69,
-    75,
-    81,
-    87,
-    93,
-    99,
-    105,
-    8,
-    14,
-    20,
-    26,
-    32,
-    38,
-    44,
-    50,
-    56,
-    62,
-    68,
-    74,
-    80,
-    86,
-    92,
-    98,
-    17,
-    33,
-    49,
-    65,
-    81,
-    97,
-    113,
-    129,
-    145,
-    161,
-    177,
-    193,
-    209,
-    225,
-    241,
-    257,
-    1,
-    1,
-    1,
-    1,
-    1,
-    1,
-    1,
-    1,
-    1,
-    1,
-    1,
-    1,
-    1,
-    1,
-    1,
-    1,
-];
-
+// Each of them, as a number to compute with.
 fn times(upper: usize) -> usize
     requires { ⌜ upper < 16 ⌝ }
     ensures { λ r. ⌜ r ≡ times (kindOf upper) ⌝ }
@@ -295,20 +38,6 @@ fn once(upper: usize) -> usize
     ensures { λ r. ⌜ r ≡ once (kindOf upper) ⌝ }
 {
     heads::wide(ONCE[upper])
-}
-
-fn spans() -> [u16; 256]
-    ensures { λ r. ⌜ Spans r ⌝ }
-{
-    SPANS
-}
-
-fn span_of(spans: &[u16; 256], opcode: usize) -> usize
-    requires { ⌜ Spans (now spans) ⌝ }
-    requires { ⌜ opcode < 256 ⌝ }
-    ensures { λ r. ⌜ r ≡ spanOf opcode ⌝ }
-{
-    spans[opcode] as usize
 }
 
 // How many entries have been stored in each table. Past 256 the table is full, and so it stays.
@@ -350,6 +79,7 @@ fn bumped(stored: usize, upper: usize, storing: usize) -> usize
     if upper == storing { stored + 1 } else { stored }
 }
 
+// After an opcode.
 fn grown(f: Filled, upper: usize) -> Filled
     requires { ⌜ (f .pairs < 256 ^ 3) × (f .quads < 256 ^ 3) × (f .octets < 256 ^ 3) ⌝ }
     ensures { λ r. ⌜ r ≡ grown f upper ⌝ }
@@ -363,9 +93,7 @@ fn grown(f: Filled, upper: usize) -> Filled
 
 // An opcode whose bytes are all there.
 fn whole(blocks: usize, s: &[u8], at: usize, k: usize, f: Filled, span: usize) -> Head
-    requires { ⌜ at < length (now s) ⌝ }
-    requires { ⌜ span ≡ spanOf (getD (now s) at 0) ⌝ }
-    requires { ⌜ at + span ≤ length (now s) ⌝ }
+    requires { ⌜ Stands (now s) at span ⌝ }
     requires { ⌜ k < blocks ⌝ }
     ensures { λ r. ⌜ Tells (now (s .entry)) at r (opcode blocks (now (s .entry)) at k (fillsOf f)) ⌝ }
 {
@@ -389,8 +117,7 @@ fn whole(blocks: usize, s: &[u8], at: usize, k: usize, f: Filled, span: usize) -
 
 // An opcode inside which the bytes end: refused, and the order of the tests says by which number.
 fn cut(blocks: usize, s: &[u8], at: usize, k: usize, f: Filled) -> Head
-    requires { ⌜ at < length (now s) ⌝ }
-    requires { ⌜ length (now s) < at + spanOf (getD (now s) at 0) ⌝ }
+    requires { ⌜ Ends (now s) at ⌝ }
     requires { ⌜ k < blocks ⌝ }
     ensures { λ r. ⌜ Tells (now (s .entry)) at r (opcode blocks (now (s .entry)) at k (fillsOf f)) ⌝ }
 {
@@ -414,13 +141,14 @@ fn cut(blocks: usize, s: &[u8], at: usize, k: usize, f: Filled) -> Head
     Head::Bad(Answer::OPCODE_CUT)
 }
 
+// The head of the opcode at s[at].
 fn opcode(spans: &[u16; 256], blocks: usize, s: &[u8], at: usize, k: usize, f: Filled) -> Head
     requires { ⌜ Spans (now spans) ⌝ }
     requires { ⌜ at < length (now s) ⌝ }
     requires { ⌜ k < blocks ⌝ }
     ensures { λ r. ⌜ Tells (now (s .entry)) at r (opcode blocks (now (s .entry)) at k (fillsOf f)) ⌝ }
 {
-    let span = span_of(spans, heads::wide(s[at]));
+    let span = spans::span_of(spans, heads::wide(s[at]));
     if s.len() - at < span {
         return cut(blocks, s, at, k, f);
     }
@@ -434,7 +162,7 @@ fn check_opcodes(blocks: usize, s: &[u8]) -> Answer
     requires { ⌜ length (now s) < 256 ^ 3 ⌝ }
     ensures { λ r. ⌜ r ≡ verdict (now (s .entry)) (decode blocks (now (s .entry))) ⌝ }
 {
-    let spans = spans();
+    let spans = spans::spans();
     let len = s.len();
     let mut at = 4;
     let mut k = 0;

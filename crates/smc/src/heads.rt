@@ -5,7 +5,7 @@ ghost use lib.Dec.{eqb};
 ghost use lib.ListN.{length};
 ghost use Rattle.spec.specs.Basics.{if};
 ghost use Rattle.spec.specs.Chunks.{counted, bodyAt};
-ghost use Rattle.smc.specs.Heads.{leadAt};
+ghost use Rattle.smc.specs.Heads.{Leads};
 
 pub struct Lead {
     pub upper: usize,
@@ -43,7 +43,7 @@ fn count_of(bytes: usize, opcode: usize, next: usize) -> usize
 pub fn lead_at(s: &[u8], at: usize) -> Lead
     requires { ⌜ at < length (now s) ⌝ }
     requires { ⌜ bodyAt (now s) at ≤ length (now s) ⌝ }
-    ensures { λ r. ⌜ r ≡ leadAt (now (s .entry)) at ⌝ }
+    ensures { λ r. ⌜ Leads (now (s .entry)) at r ⌝ }
 {
     let opcode = wide(s[at]);
     let upper = opcode / 16;

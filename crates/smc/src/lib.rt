@@ -6,6 +6,7 @@ mod flags;
 mod heads;
 mod paint;
 mod runs;
+mod spans;
 mod tables;
 
 use spec::Answer;

@@ -1,4 +1,5 @@
-// The paint pass: it runs on an accepted chunk only, in place, block by block in order, and cannot fail.
+// The paint pass: it runs on an accepted chunk only, in place, block by block in order, and cannot fail. Here s[at] is the next opcode, and k
+// how many blocks have had their turn. Each opcode's function reads its lead again: that is cheaper than to keep what the check pass read.
 use crate::flags;
 use crate::heads;
 use crate::runs;
@@ -230,6 +231,7 @@ fn whole_op(
     }
 }
 
+// A struct of five fields takes seven lines; this says it in one.
 fn onward(at: usize, k: usize, pairs: u8, quads: u8, octets: u8) -> Next
     ensures { λ r. ⌜ r ≡ record { at = at; k = k; pairs = pairs; quads = quads; octets = octets } ⌝ }
 {

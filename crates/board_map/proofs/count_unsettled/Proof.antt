@@ -1,6 +1,6 @@
 use mathlib.Core.Path.{sym, _∙_}
-use Rattle.spec.proofs.Maps.{count-made, count-refused}
 use borrow.Author.Needs.{needs}
+use Rattle.spec.proofs.Maps.{count-made, count-refused}
 use Rattle.board_map.proofs.count_unsettled.Statement.{statement}
 use Rattle.board_map.proofs.count_unsettled.Tie as tie
 

@@ -1,6 +1,6 @@
 use mathlib.Core.Path.{sym, _∙_}
-use Rattle.spec.proofs.Maps.{map-below-mark, fresh-made, fresh-refused}
 use borrow.Author.Needs.{needs}
+use Rattle.spec.proofs.Maps.{map-below-mark, fresh-made, fresh-refused}
 use Rattle.board_map.proofs.fresh_map.Statement.{statement}
 use Rattle.board_map.proofs.fresh_map.Tie as tie
 

@@ -1,13 +1,13 @@
-use Rattle.spec.proofs.Lists.{from-zero-more}
-use Rattle.spec.proofs.Cases.{cases}
-use Rattle.spec.specs.Maps.{fresh}
-use lib.Seq.{take-suc-set, take-all}
-use lib.ListN.{length, take, length-set}
-use native.Mathlib.Omega.{arith}
-use native.Mathlib.Numerals.{add-one}
-use mathlib.Core.Path.{_≡_}
 use Prim.Native.Nat.{_≤_, _<_, _-_}
+use mathlib.Core.Path.{_≡_}
+use native.Mathlib.Numerals.{add-one}
+use native.Mathlib.Omega.{arith}
+use lib.ListN.{length, take, length-set}
+use lib.Seq.{take-suc-set, take-all}
 use borrow.Author.Needs.{needs}
+use Rattle.spec.specs.Maps.{fresh}
+use Rattle.spec.proofs.Cases.{cases}
+use Rattle.spec.proofs.Lists.{from-zero-more}
 use Rattle.board_map.proofs.number_entries.Statement.{statement}
 use Rattle.board_map.proofs.number_entries.Tie as tie
 

@@ -5,11 +5,11 @@ use native.Mathlib.Omega.{arith}
 use lib.Dec.{eqb}
 use lib.ListN.{length, drop, getD, drop-of-length-le}
 use lib.Seq.{drop-cons}
+use borrow.Author.Needs.{needs}
 use Rattle.spec.specs.Basics.{if}
 use Rattle.spec.specs.Maps.{settled, unsettled}
 use Rattle.spec.proofs.Cases.{cases}
 use Rattle.spec.proofs.Lists.{by-test}
-use borrow.Author.Needs.{needs}
 use Rattle.board_map.proofs.unsettled_entries.Statement.{statement}
 use Rattle.board_map.proofs.unsettled_entries.Tie as tie
 

@@ -1,8 +1,8 @@
 use mathlib.Core.Path.{sym, _∙_}
 use native.Mathlib.Omega.{arith}
+use borrow.Author.Needs.{needs}
 use borrow.Author.Tests.{eq-eqb, ne-eqb}
 use Rattle.spec.proofs.Limits.{allowed-size, fault-size, fault-length}
-use borrow.Author.Needs.{needs}
 use Rattle.sizes.proofs.board_fault.Statement.{statement}
 use Rattle.sizes.proofs.board_fault.Tie as tie
 

@@ -1,9 +1,9 @@
-use Rattle.smc.proofs.Reading.{read-refused, size-allowed, lent, read-says, read-keeps, is-accepted, read-paints}
-use Rattle.spec.proofs.Limits.{allowed-size}
-use Rattle.spec.specs.Boards.{Board}
-use native.Mathlib.Omega.{arith}
 use mathlib.Core.Path.{ap, sym, _∙_}
+use native.Mathlib.Omega.{arith}
 use borrow.Author.Needs.{needs}
+use Rattle.spec.specs.Boards.{Board}
+use Rattle.spec.proofs.Limits.{allowed-size}
+use Rattle.smc.proofs.Reading.{read-refused, size-allowed, lent, read-says, read-keeps, is-accepted, read-paints}
 use Rattle.smc.proofs.read_chunk.Statement.{statement}
 use Rattle.smc.proofs.read_chunk.Tie as tie
 

@@ -1,8 +1,8 @@
-use Rattle.smc.proofs.Rowwise.{line-small}
-use Rattle.spec.specs.Pictures.{place}
-use native.Mathlib.Omega.{arith}
 use native.Mathlib.Nat.{add-zero, div-le-self, mod-lt}
+use native.Mathlib.Omega.{arith}
 use borrow.Author.Needs.{needs}
+use Rattle.spec.specs.Pictures.{place}
+use Rattle.smc.proofs.Rowwise.{line-small}
 use Rattle.smc.proofs.blocks.place_of.Statement.{statement}
 use Rattle.smc.proofs.blocks.place_of.Tie as tie
 

@@ -1,7 +1,7 @@
 use native.Mathlib.Omega.{arith}
+use borrow.Author.Needs.{needs}
 use Rattle.smc.specs.Blocks.{pixels}
 use Rattle.smc.proofs.Rowwise.{few, span, four-rowOf, put-rows}
-use borrow.Author.Needs.{needs}
 use Rattle.smc.proofs.blocks.put_block.Statement.{statement}
 use Rattle.smc.proofs.blocks.put_block.Tie as tie
 

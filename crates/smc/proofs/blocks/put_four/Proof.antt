@@ -1,7 +1,7 @@
-use Rattle.smc.proofs.Rowwise.{sets-four}
-use lib.ListN.{length-set}
 use native.Mathlib.Omega.{arith}
+use lib.ListN.{length-set}
 use borrow.Author.Needs.{needs}
+use Rattle.smc.proofs.Rowwise.{sets-four}
 use Rattle.smc.proofs.blocks.put_four.Statement.{statement}
 use Rattle.smc.proofs.blocks.put_four.Tie as tie
 

@@ -1,5 +1,5 @@
-use Rattle.smc.specs.Blocks.{rowOf}
 use borrow.Author.Needs.{needs}
+use Rattle.smc.specs.Blocks.{rowOf}
 use Rattle.smc.proofs.blocks.put_row.Statement.{statement}
 use Rattle.smc.proofs.blocks.put_row.Tie as tie
 

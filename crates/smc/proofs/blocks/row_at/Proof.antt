@@ -1,5 +1,5 @@
-use Rattle.smc.specs.Blocks.{row}
 use borrow.Author.Needs.{needs}
+use Rattle.smc.specs.Blocks.{row}
 use Rattle.smc.proofs.blocks.row_at.Statement.{statement}
 use Rattle.smc.proofs.blocks.row_at.Tie as tie
 

@@ -1,5 +1,5 @@
-use Rattle.smc.specs.Blocks.{pixels, rows}
 use borrow.Author.Needs.{needs}
+use Rattle.smc.specs.Blocks.{pixels, rows}
 use Rattle.smc.proofs.blocks.rows_at.Statement.{statement}
 use Rattle.smc.proofs.blocks.rows_at.Tie as tie
 

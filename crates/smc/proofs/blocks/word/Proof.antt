@@ -1,7 +1,7 @@
 use mathlib.Core.Path.{refl}
 use native.Mathlib.Omega.{arith}
-use Rattle.smc.proofs.Rowwise.{rowOf-word}
 use borrow.Author.Needs.{needs}
+use Rattle.smc.proofs.Rowwise.{rowOf-word}
 use Rattle.smc.proofs.blocks.word.Statement.{statement}
 use Rattle.smc.proofs.blocks.word.Tie as tie
 

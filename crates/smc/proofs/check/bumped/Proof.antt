@@ -1,7 +1,7 @@
-use Rattle.smc.specs.Checking.{bumped}
-use Rattle.spec.proofs.Cases.{cases}
-use Rattle.spec.specs.Basics.{if}
 use borrow.Author.Needs.{needs}
+use Rattle.spec.specs.Basics.{if}
+use Rattle.spec.proofs.Cases.{cases}
+use Rattle.smc.specs.Checking.{bumped}
 use Rattle.smc.proofs.check.bumped.Statement.{statement}
 use Rattle.smc.proofs.check.bumped.Tie as tie
 

@@ -1,6 +1,6 @@
-use Rattle.smc.proofs.Behind.{ends-short, ends-differs, stated}
 use native.Mathlib.Omega.{arith}
 use borrow.Author.Needs.{needs}
+use Rattle.smc.proofs.Behind.{ends-short, ends-differs, stated}
 use Rattle.smc.proofs.check.check.Statement.{statement}
 use Rattle.smc.proofs.check.check.Tie as tie
 

@@ -1,10 +1,10 @@
-use Rattle.smc.proofs.Behind.{Behind, begins, told-runs, told-bad, goes-bad, goes-on, ends-remain, ends-follow, ends-ok}
-use Rattle.smc.specs.Checking.{Spans}
-use lib.ListN.{length}
-use native.Mathlib.Omega.{arith}
-use mathlib.Core.Path.{_≡_, refl}
 use Prim.Native.Nat.{_-_}
+use mathlib.Core.Path.{_≡_, refl}
+use native.Mathlib.Omega.{arith}
+use lib.ListN.{length}
 use borrow.Author.Needs.{needs}
+use Rattle.smc.specs.Checking.{Spans}
+use Rattle.smc.proofs.Behind.{Behind, begins, told-runs, told-bad, goes-bad, goes-on, ends-remain, ends-follow, ends-ok}
 use Rattle.smc.proofs.check.check_opcodes.Statement.{statement}
 use Rattle.smc.proofs.check.check_opcodes.Tie as tie
 

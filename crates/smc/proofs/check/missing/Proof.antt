@@ -1,13 +1,11 @@
-use Rattle.smc.specs.Checking.{fillsOf}
-use Rattle.spec.specs.Chunks.{capacity}
-use lib.ListN.{getD}
-use mathlib.Core.Path.{_≡_}
 use Prim.Native.Nat.{_<_}
-use Rattle.smc.proofs.Filling.{capped-test, missing-pair, missing-quad, missing-octet, missing-none}
-use Rattle.spec.specs.Chunks.{kindOf, once}
+use mathlib.Core.Path.{_≡_, sym, _∙_}
 use native.Mathlib.Omega.{arith}
-use mathlib.Core.Path.{sym, _∙_}
+use lib.ListN.{getD}
 use borrow.Author.Needs.{needs}
+use Rattle.spec.specs.Chunks.{capacity, kindOf, once}
+use Rattle.smc.specs.Checking.{fillsOf}
+use Rattle.smc.proofs.Filling.{capped-test, missing-pair, missing-quad, missing-octet, missing-none}
 use Rattle.smc.proofs.check.missing.Statement.{statement}
 use Rattle.smc.proofs.check.missing.Tie as tie
 

@@ -1,10 +1,10 @@
 use mathlib.Core.List.{[], _∷_}
-use lib.ListN.{getD}
-use Rattle.spec.proofs.Computed.{agree-at}
-use Rattle.spec.specs.Chunks.{kindOf, once}
-use native.Mathlib.Omega.{arith}
 use mathlib.Core.Path.{refl, _∙_}
+use native.Mathlib.Omega.{arith}
+use lib.ListN.{getD}
 use borrow.Author.Needs.{needs}
+use Rattle.spec.specs.Chunks.{kindOf, once}
+use Rattle.spec.proofs.Computed.{agree-at}
 use Rattle.smc.proofs.check.once.Statement.{statement}
 use Rattle.smc.proofs.check.once.Tie as tie
 

@@ -1,8 +1,8 @@
-use Rattle.smc.specs.Checking.{spanOf}
-use lib.ListN.{getD}
-use native.Mathlib.Omega.{arith}
 use mathlib.Core.Path.{_≡_}
+use native.Mathlib.Omega.{arith}
+use lib.ListN.{getD}
 use borrow.Author.Needs.{needs}
+use Rattle.smc.specs.Checking.{spanOf}
 use Rattle.smc.proofs.check.opcode.Statement.{statement}
 use Rattle.smc.proofs.check.opcode.Tie as tie
 
@@ -22,7 +22,7 @@ cut-requires : tie.Need-cut-requires
 cut-requires c κs =
     let a = c .before .before .before .before .before .args in
     let e : c .before .span-of .result ≡ spanOf (getD (a .s .now) (a .at) 0) = rw (← c .before .before .wide .ensures .0) (c .before .span-of .ensures) in
-    (omega arith, (omega arith, omega arith))
+    (record { start = omega arith; short = omega arith }, omega arith)
 
 returns : tie.Need-returns
 returns c = c .cut .ensures
@@ -31,7 +31,7 @@ whole-requires : tie.Need-whole-requires
 whole-requires c κs =
     let a = c .before .before .before .before .before .args in
     let e : c .before .span-of .result ≡ spanOf (getD (a .s .now) (a .at) 0) = rw (← c .before .before .wide .ensures .0) (c .before .span-of .ensures) in
-    (omega arith, (e, (omega arith, omega arith)))
+    (record { start = omega arith; is = e; room = omega arith }, omega arith)
 
 returns-2 : tie.Need-returns-2
 returns-2 c = c .whole .ensures

@@ -1,6 +1,6 @@
-use Rattle.smc.specs.Factors.{factorOf}
-use Rattle.spec.proofs.Computed.{agree-at}
 use mathlib.Core.Path.{refl}
+use Rattle.spec.proofs.Computed.{agree-at}
+use Rattle.smc.specs.Factors.{factorOf}
 use Rattle.smc.proofs.flags.pair_factors.Statement.{statement}
 use Rattle.smc.proofs.flags.pair_factors.Tie as tie
 

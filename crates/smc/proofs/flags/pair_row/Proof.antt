@@ -1,6 +1,6 @@
-use Rattle.smc.proofs.Factors.{factor-at, product-small, pair-row}
 use native.Mathlib.Omega.{arith}
 use borrow.Author.Needs.{needs}
+use Rattle.smc.proofs.Factors.{factor-at, product-small, pair-row}
 use Rattle.smc.proofs.flags.pair_row.Statement.{statement}
 use Rattle.smc.proofs.flags.pair_row.Tie as tie
 

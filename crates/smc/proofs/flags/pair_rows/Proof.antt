@@ -1,8 +1,8 @@
 use mathlib.Core.List.{[], _∷_}
-use Rattle.smc.proofs.Flagged.{pair-rows}
-use Rattle.smc.specs.Blocks.{pixels}
 use native.Mathlib.Omega.{arith}
 use borrow.Author.Needs.{needs}
+use Rattle.smc.specs.Blocks.{pixels}
+use Rattle.smc.proofs.Flagged.{pair-rows}
 use Rattle.smc.proofs.flags.pair_rows.Statement.{statement}
 use Rattle.smc.proofs.flags.pair_rows.Tie as tie
 

@@ -1,12 +1,12 @@
-use Rattle.spec.specs.Pictures.{putBlock}
-use Rattle.spec.specs.Basics.{part}
 use Prim.Native.Nat.{ℕ}
 use mathlib.Core.List.{List}
 use mathlib.Core.Path.{ap, _∙_}
-use Rattle.smc.proofs.Flagged.{four-chosen, octet-rows}
-use Rattle.smc.proofs.Rowwise.{few, span, put-rows}
 use native.Mathlib.Omega.{arith}
 use borrow.Author.Needs.{needs}
+use Rattle.spec.specs.Basics.{part}
+use Rattle.spec.specs.Pictures.{putBlock}
+use Rattle.smc.proofs.Flagged.{four-chosen, octet-rows}
+use Rattle.smc.proofs.Rowwise.{few, span, put-rows}
 use Rattle.smc.proofs.flags.put_octet.Statement.{statement}
 use Rattle.smc.proofs.flags.put_octet.Tie as tie
 

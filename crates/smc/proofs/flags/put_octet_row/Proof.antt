@@ -1,10 +1,10 @@
-use lib.Seq.{sets}
 use Prim.Native.Nat.{ℕ}
 use mathlib.Core.List.{List}
 use mathlib.Core.Path.{ap, _∙_}
-use Rattle.smc.proofs.Flagged.{octet-row}
 use native.Mathlib.Omega.{arith}
+use lib.Seq.{sets}
 use borrow.Author.Needs.{needs}
+use Rattle.smc.proofs.Flagged.{octet-row}
 use Rattle.smc.proofs.flags.put_octet_row.Statement.{statement}
 use Rattle.smc.proofs.flags.put_octet_row.Tie as tie
 

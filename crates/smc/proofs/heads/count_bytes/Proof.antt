@@ -1,5 +1,5 @@
-use Rattle.smc.proofs.Leads.{one-if-odd, none-if-high}
 use native.Mathlib.Omega.{arith}
+use Rattle.smc.proofs.Leads.{one-if-odd, none-if-high}
 use Rattle.smc.proofs.heads.count_bytes.Statement.{statement}
 use Rattle.smc.proofs.heads.count_bytes.Tie as tie
 

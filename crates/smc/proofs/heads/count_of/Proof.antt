@@ -1,6 +1,6 @@
-use Rattle.spec.proofs.Cases.{cases}
-use Rattle.spec.specs.Basics.{if}
 use borrow.Author.Needs.{needs}
+use Rattle.spec.specs.Basics.{if}
+use Rattle.spec.proofs.Cases.{cases}
 use Rattle.smc.proofs.heads.count_of.Statement.{statement}
 use Rattle.smc.proofs.heads.count_of.Tie as tie
 

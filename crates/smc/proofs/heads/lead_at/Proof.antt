@@ -1,7 +1,7 @@
-use Rattle.smc.proofs.Leads.{body-by-bytes, count-by-bytes}
-use native.Mathlib.Omega.{arith}
 use mathlib.Core.Path.{_∙_}
+use native.Mathlib.Omega.{arith}
 use borrow.Author.Needs.{needs}
+use Rattle.smc.proofs.Leads.{body-by-bytes, count-by-bytes}
 use Rattle.smc.proofs.heads.lead_at.Statement.{statement}
 use Rattle.smc.proofs.heads.lead_at.Tie as tie
 
@@ -47,9 +47,11 @@ returns c =
     let a = c .before .before .before .before .before .before .before .args in
     let w = c .before .before .before .before .wide in
     let b = c .before .before .before .count-bytes in
-    let e = body-by-bytes (a .s .now) (a .at) (w .result) (w .ensures .0) (b .result) (b .ensures) in
-    let n = c .count-of .ensures ∙ count-by-bytes (a .s .now) (a .at) (w .result) (w .ensures .0) (b .result) (b .ensures) _ (c .before .wide2 .ensures .0) in
-    rw (e, n, w .ensures .0)
+    record {
+      upper = rw (w .ensures .0);
+      count = c .count-of .ensures ∙ count-by-bytes (a .s .now) (a .at) (w .result) (w .ensures .0) (b .result) (b .ensures) _ (c .before .wide2 .ensures .0);
+      body = body-by-bytes (a .s .now) (a .at) (w .result) (w .ensures .0) (b .result) (b .ensures);
+    }
 
 pub lead-at-spec : {M : Type 1} → statement M
 lead-at-spec =

@@ -1,10 +1,9 @@
-use Prim.Native.Nat.{_*_, _<_}
-use native.Mathlib.Omega.{arith}
+use Prim.Native.Nat.{_*_, _<_, _-_}
 use mathlib.Core.Path.{sym, _∙_}
-use Rattle.smc.proofs.Going.{Going, begins, opens, continues, less, paints}
+use native.Mathlib.Omega.{arith}
 use lib.ListN.{length}
-use Prim.Native.Nat.{_-_}
 use borrow.Author.Needs.{needs}
+use Rattle.smc.proofs.Going.{Going, begins, opens, continues, less, paints}
 use Rattle.smc.proofs.paint.paint.Statement.{statement}
 use Rattle.smc.proofs.paint.paint.Tie as tie
 

@@ -1,10 +1,10 @@
-use Rattle.smc.proofs.Turning.{turned-plain, turned-pairs, turned-quads, turned-octets}
-use Rattle.smc.proofs.Opcodes.{kind-is, of-either, stores-low}
-use Rattle.spec.specs.Chunks.{Kind, stores}
-use native.Mathlib.Omega.{arith}
 use mathlib.Core.Logic.{_≢_}
 use mathlib.Core.Path.{ap}
+use native.Mathlib.Omega.{arith}
 use borrow.Author.Needs.{needs}
+use Rattle.spec.specs.Chunks.{Kind, stores}
+use Rattle.smc.proofs.Opcodes.{kind-is, of-either, stores-low}
+use Rattle.smc.proofs.Turning.{turned-plain, turned-pairs, turned-quads, turned-octets}
 use Rattle.smc.proofs.paint.turn.Statement.{statement}
 use Rattle.smc.proofs.paint.turn.Tie as tie
 

@@ -1,7 +1,7 @@
-use Rattle.smc.proofs.Rowwise.{few, span, rows-block}
-use native.Mathlib.Omega.{arith}
 use mathlib.Core.Path.{refl, _∙_}
+use native.Mathlib.Omega.{arith}
 use borrow.Author.Needs.{needs}
+use Rattle.smc.proofs.Rowwise.{few, span, rows-block}
 use Rattle.smc.proofs.runs.copy_block.Statement.{statement}
 use Rattle.smc.proofs.runs.copy_block.Tie as tie
 

@@ -1,9 +1,8 @@
-use mathlib.Core.Path.{sym}
-use Rattle.smc.proofs.Runwise.{Copying, copying-none, copying-more, copying-all}
-use native.Mathlib.Omega.{arith}
-use mathlib.Core.Path.{_∙_}
 use Prim.Native.Nat.{_-_}
+use mathlib.Core.Path.{sym, _∙_}
+use native.Mathlib.Omega.{arith}
 use borrow.Author.Needs.{needs}
+use Rattle.smc.proofs.Runwise.{Copying, copying-none, copying-more, copying-all}
 use Rattle.smc.proofs.runs.copy_run.Statement.{statement}
 use Rattle.smc.proofs.runs.copy_run.Tie as tie
 

@@ -1,11 +1,9 @@
-use Rattle.smc.proofs.Runwise.{fill-pixels}
-use mathlib.Core.Path.{sym}
-use lib.ListN.{replicate}
-use Rattle.smc.proofs.Runwise.{Putting, putting-none, putting-more, putting-all}
-use native.Mathlib.Omega.{arith}
-use mathlib.Core.Path.{refl, _∙_}
 use Prim.Native.Nat.{_-_}
+use mathlib.Core.Path.{sym, refl, _∙_}
+use native.Mathlib.Omega.{arith}
+use lib.ListN.{replicate}
 use borrow.Author.Needs.{needs}
+use Rattle.smc.proofs.Runwise.{fill-pixels, Putting, putting-none, putting-more, putting-all}
 use Rattle.smc.proofs.runs.fill_run.Statement.{statement}
 use Rattle.smc.proofs.runs.fill_run.Tie as tie
 

@@ -1,15 +1,13 @@
-use Rattle.smc.proofs.Flagged.{four-bytes}
-use mathlib.Core.Path.{sym}
-use Prim.Native.Nat.{ℕ}
+use Prim.Native.Nat.{ℕ, _-_, _+_, _*_}
 use mathlib.Core.List.{List}
-use Rattle.smc.proofs.Runwise.{Putting, putting-none, putting-more, putting-all}
-use Rattle.smc.specs.Tables.{colours}
-use Rattle.spec.specs.Flags.{flags, chosen}
-use Rattle.spec.specs.Basics.{part}
+use mathlib.Core.Path.{sym, ap, _∙_}
 use native.Mathlib.Omega.{arith}
-use mathlib.Core.Path.{ap, _∙_}
-use Prim.Native.Nat.{_-_, _+_, _*_}
 use borrow.Author.Needs.{needs}
+use Rattle.spec.specs.Basics.{part}
+use Rattle.spec.specs.Flags.{flags, chosen}
+use Rattle.smc.specs.Tables.{colours}
+use Rattle.smc.proofs.Flagged.{four-bytes}
+use Rattle.smc.proofs.Runwise.{Putting, putting-none, putting-more, putting-all}
 use Rattle.smc.proofs.runs.quad_run.Statement.{statement}
 use Rattle.smc.proofs.runs.quad_run.Tie as tie
 

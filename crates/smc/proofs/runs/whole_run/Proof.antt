@@ -1,11 +1,10 @@
-use Rattle.smc.proofs.Rowwise.{rows-part}
-use mathlib.Core.Path.{sym}
-use Rattle.smc.proofs.Runwise.{Putting, putting-none, putting-more, putting-all}
-use Rattle.spec.specs.Basics.{part}
-use native.Mathlib.Omega.{arith}
-use mathlib.Core.Path.{_∙_}
 use Prim.Native.Nat.{_-_, _+_, _*_}
+use mathlib.Core.Path.{sym, _∙_}
+use native.Mathlib.Omega.{arith}
 use borrow.Author.Needs.{needs}
+use Rattle.spec.specs.Basics.{part}
+use Rattle.smc.proofs.Rowwise.{rows-part}
+use Rattle.smc.proofs.Runwise.{Putting, putting-none, putting-more, putting-all}
 use Rattle.smc.proofs.runs.whole_run.Statement.{statement}
 use Rattle.smc.proofs.runs.whole_run.Tie as tie
 

@@ -1,14 +1,13 @@
-use lib.ListN.{length-set}
-use Rattle.spec.proofs.Parts.{sets-step}
-use Rattle.spec.proofs.Cells.{entry-room}
-use Rattle.spec.specs.Chunks.{capacity}
-use Rattle.spec.specs.Basics.{part}
-use lib.Seq.{sets}
-use lib.ListN.{length}
-use native.Mathlib.Omega.{arith}
-use mathlib.Core.Path.{_≡_, refl}
 use Prim.Native.Nat.{_≤_, _-_, _+_, _*_}
+use mathlib.Core.Path.{_≡_, refl}
+use native.Mathlib.Omega.{arith}
+use lib.ListN.{length-set, length}
+use lib.Seq.{sets}
 use borrow.Author.Needs.{needs}
+use Rattle.spec.specs.Basics.{part}
+use Rattle.spec.specs.Chunks.{capacity}
+use Rattle.spec.proofs.Cells.{entry-room}
+use Rattle.spec.proofs.Parts.{sets-step}
 use Rattle.smc.proofs.tables.store.Statement.{statement}
 use Rattle.smc.proofs.tables.store.Tie as tie
 

@@ -1,5 +1,5 @@
-use Rattle.smc.proofs.Held.{holds-emptied}
 use borrow.Author.Needs.{needs}
+use Rattle.smc.proofs.Held.{holds-emptied}
 use Rattle.smc.proofs.tables.QuadTable.emptied.Statement.{statement}
 use Rattle.smc.proofs.tables.QuadTable.emptied.Tie as tie
 

@@ -1,8 +1,8 @@
-use Rattle.smc.proofs.Counting.{span-small}
 use native.Mathlib.Omega.{arith}
 use borrow.Author.Needs.{needs}
-use Rattle.smc.proofs.check.span_of.Statement.{statement}
-use Rattle.smc.proofs.check.span_of.Tie as tie
+use Rattle.smc.proofs.Counting.{span-small}
+use Rattle.smc.proofs.spans.span_of.Statement.{statement}
+use Rattle.smc.proofs.spans.span_of.Tie as tie
 
 mul-result : tie.Need-mul-result
 mul-result c = search needs
