@@ -69,6 +69,7 @@ pub fn put_four(pic: &mut [u8], p: usize, a: u8, b: u8, c: u8, d: u8)
     pic[p + 3] = d;
 }
 
+// The same of a row that is held as a number.
 fn put_row(pic: &mut [u8], p: usize, w: u32)
     requires { ⌜ p + 4 ≤ length (now pic) ⌝ }
     ensures { λ _. ⌜ now (pic .exit) ≡ sets (now (pic .entry)) p (rowOf w) ⌝ }

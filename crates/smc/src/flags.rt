@@ -39,6 +39,7 @@ const FACTORS: [u32; 16] = [
 
 const ALL: u32 = 16843009;
 
+// The table, which a caller holds and lends: indexed in place it would be copied at every use.
 pub fn pair_factors() -> [u32; 16]
     ensures { λ r. ⌜ Factors r ⌝ }
 {
@@ -57,6 +58,7 @@ fn pair_row(factors: &[u32; 16], c0: u8, c1: u8, f: u8) -> u32
     std::num::wrapping_add_u32(c0 as u32 * ALL, std::num::wrapping_sub_u32(b, a))
 }
 
+// A block of two colours by two flag bytes.
 pub fn pair_rows(factors: &[u32; 16], c0: u8, c1: u8, f0: u8, f1: u8) -> Rows
     requires { ⌜ Factors (now factors) ⌝ }
     ensures { λ r. ⌜ pixels r ≡ chosen (flags 1 (f0 ∷ f1 ∷ [])) (c0 ∷ c1 ∷ []) ⌝ }
@@ -70,6 +72,7 @@ pub fn pair_rows(factors: &[u32; 16], c0: u8, c1: u8, f0: u8, f1: u8) -> Rows
 
 // ---- quads: two bits a pixel
 
+// Four pixels by a byte, with the colours at t[e].
 fn quad_row(t: &[u8; QuadTable::CAPACITY * QuadTable::COLOURS], e: usize, f: u8) -> u32
     requires { ⌜ e + colours 2 ≤ size 2 ⌝ }
     ensures { λ r. ⌜ rowOf r ≡ chosen (digits 2 4 f) (part (now (t .entry)) e (colours 2)) ⌝ }
@@ -83,6 +86,7 @@ fn quad_row(t: &[u8; QuadTable::CAPACITY * QuadTable::COLOURS], e: usize, f: u8)
     )
 }
 
+// A block by four flag bytes, one a row.
 pub fn quad_rows(
     t: &[u8; QuadTable::CAPACITY * QuadTable::COLOURS],
     e: usize,

@@ -13,6 +13,7 @@ pub struct Lead {
     pub body: usize,
 }
 
+// A byte as a number to compute with.
 pub fn wide(x: u8) -> usize
     ensures { λ r. ⌜ (r ≡ x) × (r < 256) ⌝ }
 {
@@ -40,6 +41,7 @@ fn count_of(bytes: usize, opcode: usize, next: usize) -> usize
     1 + next
 }
 
+// The lead of the opcode at s[at].
 pub fn lead_at(s: &[u8], at: usize) -> Lead
     requires { ⌜ at < length (now s) ⌝ }
     requires { ⌜ bodyAt (now s) at ≤ length (now s) ⌝ }

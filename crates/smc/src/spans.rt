@@ -264,12 +264,14 @@ const SPANS: [u16; 256] = [
     1,
 ];
 
+// The table, which a caller holds and lends.
 pub fn spans() -> [u16; 256]
     ensures { λ r. ⌜ Spans r ⌝ }
 {
     SPANS
 }
 
+// An opcode's length by its first byte.
 pub fn span_of(spans: &[u16; 256], opcode: usize) -> usize
     requires { ⌜ Spans (now spans) ⌝ }
     requires { ⌜ opcode < 256 ⌝ }

@@ -144,7 +144,7 @@ body n s k filled u count at =
     (if (missing filled (kindOf u) (getD s at 0)) (bad entryEmpty)
     (if (ltb (length s) (rest + each (kindOf u) * m)) (bad opcodeCut) (runs (kindOf u) m at)))))
 
--- the opcode at s[at], "Upper half-byte first": the half-byte, the count, and the place after it
+-- the opcode at s[at], "Upper half-byte first": the half-byte, the count ("1+low", "1+next byte"), and the place after it
 abbrev pub upperAt : List ℕ → ℕ → ℕ
 upperAt s at = getD s at 0 / 16
 
