@@ -11,7 +11,7 @@ use Rattle.spec.specs.Chunks.{copies}
 use Rattle.spec.proofs.Lists.{length-from, from-more, rule-more}
 use Rattle.spec.proofs.Made.{length-copies, copies-more}
 use Rattle.spec.proofs.SoFar.{soFar-skip, put-given, put-copy, mark-given, mark-copy}
-use Rattle.smc.specs.Runs.{puts, marks, copied, moved}
+use Rattle.smc.specs.Runs.{putEach, markEach, puts, marks, copied, moved}
 use Rattle.smc.specs.Shows.{Shows}
 
 -- one block given, one copied, one skipped
@@ -43,7 +43,7 @@ module _ (c r : ℕ) (wide : 0 < c) (pic₀ map₀ : List ℕ) (made : List Orig
     (k : ℕ) (ek : k ≡ length made) where
   pub shows-puts : (f : ℕ → List ℕ) (n : ℕ) → k + n ≤ c * r
       → Shows c r pic₀ map₀ (made ++ map (λ i. given (f i)) (from 0 n)) (puts c k f n pic) (marks k n m)
-  unfolding puts marks
+  unfolding putEach markEach
   shows-puts f zero h = rw (append-nil made) g
   shows-puts f (suc n) h =
       let ih = shows-puts f n (omega arith) in
@@ -53,7 +53,7 @@ module _ (c r : ℕ) (wide : 0 < c) (pic₀ map₀ : List ℕ) (made : List Orig
 
   pub shows-copied : (d n : ℕ) → 0 < d → d ≤ k → k + n ≤ c * r
       → Shows c r pic₀ map₀ (copies d n made) (copied c d k n pic) (moved d k n m)
-  unfolding copied moved
+  unfolding putEach markEach
   shows-copied d zero p q h = g
   shows-copied d (suc n) p q h =
       let ih = shows-copied d n p q (omega arith) in

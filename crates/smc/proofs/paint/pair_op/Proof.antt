@@ -10,7 +10,7 @@ use Rattle.spec.proofs.Cells.{entry-room}
 use Rattle.smc.specs.Tables.{colours}
 use Rattle.smc.proofs.Making.{tabled-store, tabled-named}
 use Rattle.smc.proofs.Opcodes.{count-within, facts-of, kind-of, facts-other, kind-other}
-use Rattle.smc.proofs.Runwise.{length-puts, length-marks}
+use Rattle.smc.proofs.Runwise.{length-putEach, length-markEach}
 use Rattle.smc.proofs.paint.pair_op.Statement.{statement}
 use Rattle.smc.proofs.paint.pair_op.Tie as tie
 
@@ -49,10 +49,10 @@ add-t30 c =
     omega (arith, facts-of (c .before .before .before .before .before .before .before .before .before .before .before .before .before .before .before .before .pre .1 .0) (c .before .before .before .before .before .before .before .before .before .before .before .before .lead-at .ensures) (c .before .before .before .before .before .before .before .before .before .before .if1 .taken) .within, z .pre .0 .entries)
 
 same-length : tie.Need-same-length
-same-length c = ap length (c .before .before .before .before .pair-run .ensures .0) ∙ length-puts _ _ _ _ _
+same-length c = ap length (c .before .before .before .before .pair-run .ensures .0) ∙ length-putEach _ _ _ _ _
 
 same-length-2 : tie.Need-same-length-2
-same-length-2 c = ap length (c .before .before .before .before .pair-run .ensures .1) ∙ length-marks _ _ _
+same-length-2 c = ap length (c .before .before .before .before .pair-run .ensures .1) ∙ length-markEach _ _ _ _
 
 returns : tie.Need-returns
 returns c =
@@ -96,10 +96,10 @@ add-t41 c =
     omega (arith, facts-other (c .before .before .before .before .before .before .before .before .before .before .before .before .before .before .before .before .pre .1 .0) (c .before .before .before .before .before .before .before .before .before .before .before .before .lead-at .ensures) (c .before .before .before .before .before .before .before .before .before .before .if1 .left) (c .before .before .before .before .before .before .before .before .before .before .before .before .before .before .before .before .pre .1 .1 .0) .within, z .pre .0 .entries)
 
 same-length-3 : tie.Need-same-length-3
-same-length-3 c = ap length (c .before .before .before .before .pair-run2 .ensures .0) ∙ length-puts _ _ _ _ _
+same-length-3 c = ap length (c .before .before .before .before .pair-run2 .ensures .0) ∙ length-putEach _ _ _ _ _
 
 same-length-4 : tie.Need-same-length-4
-same-length-4 c = ap length (c .before .before .before .before .pair-run2 .ensures .1) ∙ length-marks _ _ _
+same-length-4 c = ap length (c .before .before .before .before .pair-run2 .ensures .1) ∙ length-markEach _ _ _ _
 
 returns-2 : tie.Need-returns-2
 returns-2 c =

@@ -5,7 +5,7 @@ use lib.ListN.{length}
 use Rattle.spec.specs.Chunks.{skip, fill, copy}
 use Rattle.smc.proofs.Making.{ran-skip, ran-copy, ran-fill}
 use Rattle.smc.proofs.Opcodes.{count-within, facts-two, kind-two}
-use Rattle.smc.proofs.Runwise.{length-puts, length-marks, length-copied, length-moved}
+use Rattle.smc.proofs.Runwise.{length-putEach, length-markEach}
 use Rattle.smc.proofs.paint.plain_op.Statement.{statement}
 use Rattle.smc.proofs.paint.plain_op.Tie as tie
 
@@ -27,10 +27,10 @@ add-t20 : tie.Need-add-t20
 add-t20 c = omega (arith, facts-two (c .before .before .before .before .before .before .before .before .before .before .before .before .before .before .pre .1 .0) (c .before .before .before .before .before .before .before .before .before .before .lead-at .ensures) 6 fill (c .before .before .before .before .before .before .before .before .if1 .taken) (omega (arith, c .before .before .before .before .before .before .before .before .before .before .lead-at .ensures .upper, c .before .before .before .before .before .before .before .before .before .before .before .before .before .before .pre .1 .1)) refl refl .within, c .before .before .before .before .before .before .before .before .before .before .before .before .before .before .pre .0 .entries)
 
 same-length : tie.Need-same-length
-same-length c = ap length (c .before .before .before .before .fill-run .ensures .0) ∙ length-puts _ _ _ _ _
+same-length c = ap length (c .before .before .before .before .fill-run .ensures .0) ∙ length-putEach _ _ _ _ _
 
 same-length-2 : tie.Need-same-length-2
-same-length-2 c = ap length (c .before .before .before .before .fill-run .ensures .1) ∙ length-marks _ _ _
+same-length-2 c = ap length (c .before .before .before .before .fill-run .ensures .1) ∙ length-markEach _ _ _ _
 
 returns : tie.Need-returns
 returns c =
@@ -55,10 +55,10 @@ add-t27 : tie.Need-add-t27
 add-t27 c = omega (arith, facts-two (c .before .before .before .before .before .before .before .before .before .before .before .before .before .before .before .pre .1 .0) (c .before .before .before .before .before .before .before .before .before .before .before .lead-at .ensures) 4 (copy 2) (c .before .before .before .before .before .before .before .if2 .taken) (omega (arith, c .before .before .before .before .before .before .before .before .before .if1 .left)) refl refl .within, c .before .before .before .before .before .before .before .before .before .before .before .before .before .before .before .pre .0 .entries)
 
 same-length-3 : tie.Need-same-length-3
-same-length-3 c = ap length (c .before .before .before .before .copy-run .ensures .0) ∙ length-copied _ _ _ _ _
+same-length-3 c = ap length (c .before .before .before .before .copy-run .ensures .0) ∙ length-putEach _ _ _ _ _
 
 same-length-4 : tie.Need-same-length-4
-same-length-4 c = ap length (c .before .before .before .before .copy-run .ensures .1) ∙ length-moved _ _ _ _
+same-length-4 c = ap length (c .before .before .before .before .copy-run .ensures .1) ∙ length-markEach _ _ _ _
 
 returns-2 : tie.Need-returns-2
 returns-2 c =
@@ -77,10 +77,10 @@ add-t33 : tie.Need-add-t33
 add-t33 c = omega (arith, facts-two (c .before .before .before .before .before .before .before .before .before .before .before .before .before .before .before .before .before .pre .1 .0) (c .before .before .before .before .before .before .before .before .before .before .before .before .before .lead-at .ensures) 2 (copy 1) (c .before .before .before .before .before .before .before .if3 .taken) (omega (arith, c .before .before .before .before .before .before .before .before .before .if2 .left)) refl refl .within, c .before .before .before .before .before .before .before .before .before .before .before .before .before .before .before .before .before .pre .0 .entries)
 
 same-length-5 : tie.Need-same-length-5
-same-length-5 c = ap length (c .before .before .before .before .copy-run2 .ensures .0) ∙ length-copied _ _ _ _ _
+same-length-5 c = ap length (c .before .before .before .before .copy-run2 .ensures .0) ∙ length-putEach _ _ _ _ _
 
 same-length-6 : tie.Need-same-length-6
-same-length-6 c = ap length (c .before .before .before .before .copy-run2 .ensures .1) ∙ length-moved _ _ _ _
+same-length-6 c = ap length (c .before .before .before .before .copy-run2 .ensures .1) ∙ length-markEach _ _ _ _
 
 returns-3 : tie.Need-returns-3
 returns-3 c =

@@ -3,7 +3,7 @@ use native.Mathlib.Omega.{arith}
 use lib.ListN.{length}
 use Rattle.smc.proofs.Making.{ran-whole}
 use Rattle.smc.proofs.Opcodes.{count-within, is-whole, facts-of, kind-of}
-use Rattle.smc.proofs.Runwise.{length-puts, length-marks}
+use Rattle.smc.proofs.Runwise.{length-putEach, length-markEach}
 use Rattle.smc.proofs.paint.whole_op.Statement.{statement}
 use Rattle.smc.proofs.paint.whole_op.Tie as tie
 
@@ -26,10 +26,10 @@ add-t18 : tie.Need-add-t18
 add-t18 c = omega (arith, facts-of (c .before .before .before .before .before .before .before .before .before .before .before .pre .1 .0) (c .before .before .before .before .before .before .before .lead-at .ensures) (is-whole (c .before .before .before .before .before .before .before .before .before .before .before .pre .1 .0) (c .before .before .before .before .before .before .before .lead-at .ensures) (c .before .before .before .before .before .before .before .before .before .before .before .pre .1 .1)) .within, c .before .before .before .before .before .before .before .before .before .before .before .pre .0 .entries)
 
 same-length : tie.Need-same-length
-same-length c = ap length (c .before .before .before .before .whole-run .ensures .0) ∙ length-puts _ _ _ _ _
+same-length c = ap length (c .before .before .before .before .whole-run .ensures .0) ∙ length-putEach _ _ _ _ _
 
 same-length-2 : tie.Need-same-length-2
-same-length-2 c = ap length (c .before .before .before .before .whole-run .ensures .1) ∙ length-marks _ _ _
+same-length-2 c = ap length (c .before .before .before .before .whole-run .ensures .1) ∙ length-markEach _ _ _ _
 
 returns : tie.Need-returns
 returns c =

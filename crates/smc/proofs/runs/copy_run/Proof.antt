@@ -1,8 +1,8 @@
 use Prim.Native.Nat.{_-_}
-use mathlib.Core.Path.{sym, _∙_}
+use mathlib.Core.Path.{refl, sym, _∙_}
 use native.Mathlib.Omega.{arith}
 use borrow.Author.Needs.{needs}
-use Rattle.smc.proofs.Runwise.{Copying, copying-none, copying-more, copying-all}
+use Rattle.smc.proofs.Runwise.{Copying, running-none, running-more, running-all}
 use Rattle.smc.proofs.runs.copy_run.Statement.{statement}
 use Rattle.smc.proofs.runs.copy_run.Tie as tie
 
@@ -13,7 +13,7 @@ abbrev μ-loop : tie.MeasureT-loop
 μ-loop pic₀ map₀ c r k n d i₀ pic map i = n - i
 
 loop-holds : tie.Need-loop-holds Inv-loop μ-loop
-loop-holds c = copying-none _ _ _ _ _ _ _ (c .before .before .pre .0) (c .before .before .pre .1 .1 .0)
+loop-holds c = running-none _ _ _ _ _ _ _ _ (c .before .before .pre .0) (c .before .before .pre .1 .1 .0)
 
 add-copy-block : tie.Need-add-copy-block Inv-loop μ-loop
 add-copy-block c = search needs
@@ -38,7 +38,7 @@ loop-less c = search needs
 loop-again : tie.Need-loop-again Inv-loop μ-loop
 loop-again c =
     let g = c .before .before .before .before .before .before .before .before .loop .inv in
-    copying-more _ _ _ _ _ _ _ _ _ _ g (omega arith) _ _ (c .before .before .before .before .copy-block .ensures .0) (c .before .before .before .before .copy-block .ensures .1)
+    running-more _ _ _ _ _ _ _ _ _ _ _ g (omega arith) _ refl _ _ (c .before .before .before .before .copy-block .ensures .0) (c .before .before .before .before .copy-block .ensures .1)
 
 same-length : tie.Need-same-length Inv-loop μ-loop
 same-length c = c .before .loop .inv .same
@@ -49,7 +49,7 @@ same-length-2 c = c .before .loop .inv .entries ∙ sym (c .before .before .befo
 returns : tie.Need-returns Inv-loop μ-loop
 returns c =
     let g = c .before .loop .inv in
-    copying-all _ _ _ _ _ _ _ _ _ _ g (omega (arith, g .most))
+    running-all _ _ _ _ _ _ _ _ _ _ _ g (omega (arith, g .most))
 
 pub copy-run-spec : {M : Type 1} → statement M
 copy-run-spec =

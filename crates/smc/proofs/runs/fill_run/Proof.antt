@@ -3,7 +3,7 @@ use mathlib.Core.Path.{sym, refl, _∙_}
 use native.Mathlib.Omega.{arith}
 use lib.ListN.{replicate}
 use borrow.Author.Needs.{needs}
-use Rattle.smc.proofs.Runwise.{fill-pixels, Putting, putting-none, putting-more, putting-all}
+use Rattle.smc.proofs.Runwise.{fill-pixels, Putting, running-none, running-more, running-all}
 use Rattle.smc.proofs.runs.fill_run.Statement.{statement}
 use Rattle.smc.proofs.runs.fill_run.Tie as tie
 
@@ -17,7 +17,7 @@ word-requires : tie.Need-word-requires Inv-loop μ-loop
 word-requires c κs = search needs
 
 loop-holds : tie.Need-loop-holds Inv-loop μ-loop
-loop-holds c = putting-none _ _ _ _ _ _ _ (c .before .before .before .pre .0) (c .before .before .before .pre .1 .1)
+loop-holds c = running-none _ _ _ _ _ _ _ _ (c .before .before .before .pre .0) (c .before .before .before .pre .1 .1)
 
 add-settle : tie.Need-add-settle Inv-loop μ-loop
 add-settle c = search needs
@@ -38,7 +38,7 @@ loop-again c =
     let a = c .before .before .before .before .before .before .before .before .before .before .before .before .args in
     let g = c .before .before .before .before .before .before .before .before .loop .inv in
     let px = fill-pixels (a .colour) _ _ (c .before .before .before .before .before .before .before .before .before .word .ensures) refl in
-    putting-more _ _ _ _ _ _ _ _ _ _ g (omega arith) _ px _ _ (c .before .before .before .before .settle .ensures .0) (c .before .before .before .before .settle .ensures .1)
+    running-more _ _ _ _ _ _ _ _ _ _ _ g (omega arith) _ px _ _ (c .before .before .before .before .settle .ensures .0) (c .before .before .before .before .settle .ensures .1)
 
 same-length : tie.Need-same-length Inv-loop μ-loop
 same-length c = c .before .loop .inv .same
@@ -49,7 +49,7 @@ same-length-2 c = c .before .loop .inv .entries ∙ sym (c .before .before .befo
 returns : tie.Need-returns Inv-loop μ-loop
 returns c =
     let g = c .before .loop .inv in
-    putting-all _ _ _ _ _ _ _ _ _ _ g (omega (arith, g .most))
+    running-all _ _ _ _ _ _ _ _ _ _ _ g (omega (arith, g .most))
 
 pub fill-run-spec : {M : Type 1} → statement M
 fill-run-spec =

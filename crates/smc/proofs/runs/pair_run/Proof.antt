@@ -8,7 +8,7 @@ use Rattle.spec.specs.Basics.{part}
 use Rattle.spec.specs.Flags.{flags, chosen}
 use Rattle.smc.specs.Tables.{colours}
 use Rattle.smc.proofs.Flagged.{two-bytes}
-use Rattle.smc.proofs.Runwise.{Putting, putting-none, putting-more, putting-all}
+use Rattle.smc.proofs.Runwise.{Putting, running-none, running-more, running-all}
 use Rattle.smc.proofs.runs.pair_run.Statement.{statement}
 use Rattle.smc.proofs.runs.pair_run.Tie as tie
 
@@ -28,7 +28,7 @@ element-copy-out-c1 : tie.Need-element-copy-out-c1 Inv-loop μ-loop
 element-copy-out-c1 c = search needs
 
 loop-holds : tie.Need-loop-holds Inv-loop μ-loop
-loop-holds c = putting-none _ _ _ _ _ _ _ (c .before .before .before .before .before .pre .0) (c .before .before .before .before .before .pre .1 .1 .0)
+loop-holds c = running-none _ _ _ _ _ _ _ _ (c .before .before .before .before .before .pre .0) (c .before .before .before .before .before .pre .1 .1 .0)
 
 mul-q : tie.Need-mul-q Inv-loop μ-loop
 mul-q c = search needs
@@ -71,7 +71,7 @@ loop-again c =
     c .before .before .before .before .before .before .before .pair-rows .ensures
     ∙ ap (λ (bs : List ℕ). chosen (flags 1 bs) (getD (a .t .now) (a .e) 0 ∷ getD (a .t .now) (a .e + 1) 0 ∷ [])) (two-bytes (a .s .now) q (omega arith))
     ∙ ap (λ (cs : List ℕ). chosen (flags 1 (part (a .s .now) q 2)) cs) (two-bytes (a .t .now) (a .e) (omega (arith, c .before .before .before .before .before .before .before .before .before .before .before .before .before .before .before .before .before .pre .1 .1 .1 .1 .0, c .before .before .before .before .before .before .before .before .before .before .before .before .before .before .before .before .before .pre .1 .1 .1 .1 .1 .0))) in
-    putting-more _ _ _ _ _ _ _ _ _ _ g (omega arith) _ px _ _ (c .before .before .before .before .settle .ensures .0) (c .before .before .before .before .settle .ensures .1)
+    running-more _ _ _ _ _ _ _ _ _ _ _ g (omega arith) _ px _ _ (c .before .before .before .before .settle .ensures .0) (c .before .before .before .before .settle .ensures .1)
 
 same-length : tie.Need-same-length Inv-loop μ-loop
 same-length c = c .before .loop .inv .same
@@ -82,7 +82,7 @@ same-length-2 c = c .before .loop .inv .entries ∙ sym (c .before .before .befo
 returns : tie.Need-returns Inv-loop μ-loop
 returns c =
     let g = c .before .loop .inv in
-    putting-all _ _ _ _ _ _ _ _ _ _ g (omega (arith, g .most))
+    running-all _ _ _ _ _ _ _ _ _ _ _ g (omega (arith, g .most))
 
 pub pair-run-spec : {M : Type 1} → statement M
 pair-run-spec =

@@ -7,7 +7,7 @@ use Rattle.spec.specs.Basics.{part}
 use Rattle.spec.specs.Flags.{flags, chosen}
 use Rattle.smc.specs.Tables.{colours}
 use Rattle.smc.proofs.Flagged.{four-bytes}
-use Rattle.smc.proofs.Runwise.{Putting, putting-none, putting-more, putting-all}
+use Rattle.smc.proofs.Runwise.{Putting, running-none, running-more, running-all}
 use Rattle.smc.proofs.runs.quad_run.Statement.{statement}
 use Rattle.smc.proofs.runs.quad_run.Tie as tie
 
@@ -18,7 +18,7 @@ abbrev μ-loop : tie.MeasureT-loop
 μ-loop pic₀ map₀ c r k n t e s at i₀ pic map i = n - i
 
 loop-holds : tie.Need-loop-holds Inv-loop μ-loop
-loop-holds c = putting-none _ _ _ _ _ _ _ (c .before .before .before .pre .0) (c .before .before .before .pre .1 .1 .0)
+loop-holds c = running-none _ _ _ _ _ _ _ _ (c .before .before .before .pre .0) (c .before .before .before .pre .1 .1 .0)
 
 mul-q : tie.Need-mul-q Inv-loop μ-loop
 mul-q c = search needs
@@ -70,7 +70,7 @@ loop-again c =
     let g = c .before .before .before .before .before .before .before .before .before .before .before .before .before .loop .inv in
     let q = a .at + 4 * c .before .before .before .before .before .before .before .before .before .before .before .before .before .loop .i in
     let px = c .before .before .before .before .before .before .before .quad-rows .ensures ∙ ap (λ (bs : List ℕ). chosen (flags 2 bs) (part (a .t .now) (a .e) (colours 2))) (four-bytes (a .s .now) q (omega arith)) in
-    putting-more _ _ _ _ _ _ _ _ _ _ g (omega arith) _ px _ _ (c .before .before .before .before .settle .ensures .0) (c .before .before .before .before .settle .ensures .1)
+    running-more _ _ _ _ _ _ _ _ _ _ _ g (omega arith) _ px _ _ (c .before .before .before .before .settle .ensures .0) (c .before .before .before .before .settle .ensures .1)
 
 same-length : tie.Need-same-length Inv-loop μ-loop
 same-length c = c .before .loop .inv .same
@@ -81,7 +81,7 @@ same-length-2 c = c .before .loop .inv .entries ∙ sym (c .before .before .befo
 returns : tie.Need-returns Inv-loop μ-loop
 returns c =
     let g = c .before .loop .inv in
-    putting-all _ _ _ _ _ _ _ _ _ _ g (omega (arith, g .most))
+    running-all _ _ _ _ _ _ _ _ _ _ _ g (omega (arith, g .most))
 
 pub quad-run-spec : {M : Type 1} → statement M
 quad-run-spec =

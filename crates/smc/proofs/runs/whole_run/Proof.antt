@@ -4,7 +4,7 @@ use native.Mathlib.Omega.{arith}
 use borrow.Author.Needs.{needs}
 use Rattle.spec.specs.Basics.{part}
 use Rattle.smc.proofs.Rowwise.{rows-part}
-use Rattle.smc.proofs.Runwise.{Putting, putting-none, putting-more, putting-all}
+use Rattle.smc.proofs.Runwise.{Putting, running-none, running-more, running-all}
 use Rattle.smc.proofs.runs.whole_run.Statement.{statement}
 use Rattle.smc.proofs.runs.whole_run.Tie as tie
 
@@ -15,7 +15,7 @@ abbrev μ-loop : tie.MeasureT-loop
 μ-loop pic₀ map₀ c r k n s at i₀ pic map i = n - i
 
 loop-holds : tie.Need-loop-holds Inv-loop μ-loop
-loop-holds c = putting-none _ _ _ _ _ _ _ (c .before .before .before .pre .0) (c .before .before .before .pre .1 .1 .0)
+loop-holds c = running-none _ _ _ _ _ _ _ _ (c .before .before .before .pre .0) (c .before .before .before .pre .1 .1 .0)
 
 mul-rows-at : tie.Need-mul-rows-at Inv-loop μ-loop
 mul-rows-at c = search needs
@@ -45,7 +45,7 @@ loop-again c =
     let a = c .before .before .before .before .before .before .before .before .before .before .before .before .before .args in
     let g = c .before .before .before .before .before .before .before .before .before .loop .inv in
     let px = c .before .before .before .before .before .before .before .rows-at .ensures ∙ rows-part (a .s .now) _ (omega arith) in
-    putting-more _ _ _ _ _ _ _ _ _ _ g (omega arith) _ px _ _ (c .before .before .before .before .settle .ensures .0) (c .before .before .before .before .settle .ensures .1)
+    running-more _ _ _ _ _ _ _ _ _ _ _ g (omega arith) _ px _ _ (c .before .before .before .before .settle .ensures .0) (c .before .before .before .before .settle .ensures .1)
 
 same-length : tie.Need-same-length Inv-loop μ-loop
 same-length c = c .before .loop .inv .same
@@ -56,7 +56,7 @@ same-length-2 c = c .before .loop .inv .entries ∙ sym (c .before .before .befo
 returns : tie.Need-returns Inv-loop μ-loop
 returns c =
     let g = c .before .loop .inv in
-    putting-all _ _ _ _ _ _ _ _ _ _ g (omega (arith, g .most))
+    running-all _ _ _ _ _ _ _ _ _ _ _ g (omega (arith, g .most))
 
 pub whole-run-spec : {M : Type 1} → statement M
 whole-run-spec =
