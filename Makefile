@@ -1,7 +1,15 @@
+# make run    prove and build the board program, and run it on 01's feed; `make run FEED=path` on another. The listing alone goes to
+#             standard output
 # make test   prove every crate from nothing, try the must-fail edits, compare with the second reader; last line `N passed, M failed`
 # make check  prove what changed since the last time: the quick loop, and no verdict
 # make clean  remove what the others made
-.PHONY: test check clean
+.PHONY: run test check clean
+
+FEED ?= examples/listing.feed
+
+run:
+	@rt check board >&2
+	@target/bin/board <"$(FEED)"
 
 test:
 	@tests/run

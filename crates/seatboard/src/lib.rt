@@ -5,6 +5,7 @@ use spec::Count;
 use spec::Size;
 ghost use mathlib.Core.Path.{_≡_};
 ghost use Rattle.spec.specs.Boards.{board, read};
+ghost use Rattle.spec.specs.Feeds.{walk};
 ghost use Rattle.spec.specs.Maps.{freshMap, countMap};
 
 // Makes a fresh map.
@@ -37,4 +38,14 @@ pub extern "C" fn seatboard_read_chunk(
     ensures { λ _. ⌜ now (map .exit) ≡ read size (now (chunk .entry)) (board (now (picture .entry)) (now (map .entry))) .board .map ⌝ }
 {
     smc::read_chunk(size, chunk, picture, map)
+}
+
+// Walks a feed over a lent picture and map.
+#[no_mangle]
+pub extern "C" fn seatboard_walk_feed(feed: &[u8], picture: &mut [u8], map: &mut [u16]) -> Answer
+    ensures { λ r. ⌜ r ≡ walk (now (feed .entry)) (board (now (picture .entry)) (now (map .entry))) .said .answer ⌝ }
+    ensures { λ _. ⌜ now (picture .exit) ≡ walk (now (feed .entry)) (board (now (picture .entry)) (now (map .entry))) .board .picture ⌝ }
+    ensures { λ _. ⌜ now (map .exit) ≡ walk (now (feed .entry)) (board (now (picture .entry)) (now (map .entry))) .board .map ⌝ }
+{
+    feed::walk_feed(feed, picture, map)
 }

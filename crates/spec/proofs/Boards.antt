@@ -1,5 +1,5 @@
--- Calls on boards: one thing after another, lengths, and which numbers end a walk. Assumes nothing.
-use Prim.Native.Nat.{ℕ, _+_}
+-- Calls on boards: one thing after another, and lengths. Assumes nothing.
+use Prim.Native.Nat.{ℕ}
 use mathlib.Core.Path.{_≡_, refl, ap, _∙_}
 use mathlib.Core.List.{List, [], _∷_, _++_}
 use mathlib.Core.Bool.{true}
@@ -8,13 +8,9 @@ use Rattle.spec.specs.Answers.{ok, checked}
 use Rattle.spec.specs.Sizes.{allowed, columns, lines, blocks, fault}
 use Rattle.spec.specs.Pictures.{Origin, Covers}
 use Rattle.spec.specs.Boards.{Board, Left, left, Exact, exact, paintBoard, readExact, read, inTurn}
-use Rattle.spec.specs.Feeds.{Varint, Chunks, chunkAt, chunksFrom}
-use Rattle.spec.proofs.Fuel.{by-fuel}
-use Rattle.spec.proofs.Lists.{by-test}
 use Rattle.spec.proofs.Limits.{area, exact-true, fault-none}
 use Rattle.spec.proofs.Blocks.{length-paint}
 use Rattle.spec.proofs.Origins.{length-remap}
-use Rattle.spec.proofs.Varints.{Cut, short, Read, refused, got, read-varint}
 
 -- first xs, then ys: all that was said, and the board
 pub inTurn-append : {A R : Type 0} (f : A → Board → Left R) (xs ys : List A) (b : Board)
@@ -39,19 +35,3 @@ no-fault z a b e = fault-none z (exact z b) a (exact-true z b e)
 pub read-exact : (z : Size) → allowed z ≡ true → (s : List ℕ) (b : Board) → Exact z b → read z s b ≡ readExact z s b
 unfolding read checked
 read-exact z a s b e = rw (no-fault z a b e)
-
--- the chunks of a feed end with 0, 12 or 13
-pub data Ends : ℕ → Type 0 where
-  whole : Ends ok
-  cut : {e : ℕ} → Cut e → Ends e
-
-ends-at : (onward : ℕ → Chunks) (s : List ℕ) (at : ℕ) {x : Varint} → ((p : ℕ) → Ends (onward p .ending .number)) → Read at x
-    → Ends (chunkAt onward s at x .ending .number)
-ends-at onward s at h (refused c) = cut c
-ends-at onward s at h (got {v} {p} l) = by-test (λ (cs : Chunks). Ends (cs .ending .number)) _ (λ t. cut short) (λ t. h (p + v))
-
-pub ends-chunks : (fuel : ℕ) (s : List ℕ) (at : ℕ) → Ends (chunksFrom fuel s at .ending .number)
-unfolding chunksFrom
-ends-chunks fuel s at =
-    by-fuel _ _ _ (λ (at : ℕ). Unit {0}) (λ (cs : Chunks). Ends (cs .ending .number))
-    (λ onward at u h. ends-at onward s at (λ p. h p tt) (read-varint s at)) (λ at u. whole) fuel at tt

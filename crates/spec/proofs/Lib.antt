@@ -17,4 +17,5 @@ pub mod Digits
 pub mod Cells
 pub mod Varints
 pub mod Loops
+pub mod Feeds
 pub mod Boards

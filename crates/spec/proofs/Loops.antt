@@ -1,5 +1,4 @@
--- The two loops of the definitions, over the opcodes of a chunk and over the chunks of a feed: their fuel never runs out, and the equations
--- that a loop of code goes by. Assumes nothing.
+-- The loop over the opcodes of a chunk: its fuel never runs out, and the equations that a loop of code goes by. Assumes nothing.
 use Prim.Native.Nat.{ℕ, suc, _+_, _-_, _*_, _<_, _≤_}
 use mathlib.Core.Path.{_≡_, refl}
 use mathlib.Core.List.{List}
@@ -8,12 +7,9 @@ use native.Mathlib.Omega.{arith}
 use lib.ListN.{length}
 use lib.Dec.{ltb}
 use borrow.Author.Tests.{ltb-true, lt-ltb, le-ltb}
-use Rattle.spec.specs.Answers.{ok, answer}
 use Rattle.spec.specs.Chunks.{State, Step, stop, go, Outcome, step, finish, resume, goesOn, loop, Head, act, fills, once, each}
-use Rattle.spec.specs.Feeds.{Varint, varintAt, Chunks, noMore, chunkAt, chunksFrom}
 use Rattle.spec.proofs.Fuel.{fuel-end, fuel-enough, fuel-turn}
 use Rattle.spec.proofs.Sound.{Checked, good, checked-head}
-use Rattle.spec.proofs.Varints.{Read, refused, got, read-varint}
 
 -- an opcode that is not refused stands before the next
 data Onward (at : ℕ) : Step → Type 0 where
@@ -63,36 +59,3 @@ module _ (n : ℕ) (s : List ℕ) where
   pub unroll-end : (fuel : ℕ) (st : State) → goesOn n s st ≡ false → loop fuel n s st ≡ finish n s st
   unfolding loop
   unroll-end fuel st e = fuel-end _ _ _ fuel st e
-
-same-chunk : (f g : ℕ → Chunks) (s : List ℕ) (at : ℕ) {x : Varint} → ((p : ℕ) → at < p → f p ≡ g p) → Read at x → chunkAt f s at x ≡ chunkAt g s at x
-same-chunk f g s at h (refused c) = refl
-same-chunk f g s at h (got {v} {p} l) = rw (h (p + v) (omega arith))
-
-module _ (s : List ℕ) where
-  feedLeft : ℕ → ℕ
-  feedLeft at = length s - at
-
-  feed-done : (at : ℕ) → feedLeft at ≡ 0 → ltb at (length s) ≡ false
-  unfolding feedLeft
-  feed-done at e = le-ltb at (length s) (omega arith)
-
-  feed-less : (f g : ℕ → Chunks) (at : ℕ) → ltb at (length s) ≡ true → ((p : ℕ) → feedLeft p < feedLeft at → f p ≡ g p)
-      → chunkAt f s at (varintAt s at) ≡ chunkAt g s at (varintAt s at)
-  unfolding feedLeft
-  feed-less f g at t h =
-      let l = ltb-true at (length s) t in
-      same-chunk f g s at (λ p o. h p (omega arith)) (read-varint s at)
-
-  pub chunks-enough : (fuel at : ℕ) → length s ≤ at + fuel → chunksFrom (suc fuel) s at ≡ chunksFrom fuel s at
-  unfolding chunksFrom feedLeft
-  chunks-enough fuel at h = fuel-enough _ _ _ feedLeft feed-done feed-less fuel at (omega arith)
-
-  -- with the fuel that `feedOf` gives it, or more
-  pub unroll-chunks : (fuel at : ℕ) → length s ≤ fuel → at < length s
-      → chunksFrom fuel s at ≡ chunkAt (λ p. chunksFrom fuel s p) s at (varintAt s at)
-  unfolding chunksFrom feedLeft
-  unroll-chunks fuel at h l = fuel-turn _ _ _ feedLeft feed-done feed-less fuel at (omega arith) (lt-ltb at (length s) l)
-
-  pub unroll-chunks-end : (fuel at : ℕ) → length s ≤ at → chunksFrom fuel s at ≡ noMore (answer ok at)
-  unfolding chunksFrom
-  unroll-chunks-end fuel at l = fuel-end _ _ _ fuel at (le-ltb at (length s) l)

@@ -12,7 +12,7 @@ use Rattle.spec.specs.Pictures.{given, held}
 use Rattle.spec.specs.Maps.{settled, fresh, unsettled}
 use Rattle.spec.specs.Feeds.{reply}
 use Rattle.spec.specs.Calls.{reading, walking}
-use Rattle.spec.specs.Rows.{Row, octet, sequence, lastGiven, readLengths, writeLengths, maps, writes, encodes, varint, noVarint, size, of, holds, hold}
+use Rattle.spec.specs.Rows.{Row, octet, sequence, lastGiven, readLengths, writeLengths, maps, writes, encodes, varint, noVarint, prints, size, of, holds, hold}
 
 -- a chunk read over a starting picture and a fresh map
 abbrev pub reads : ℕ → ℕ → List ℕ → List ℕ → ℕ → ℕ → List ℕ → List ℕ → Row
@@ -51,6 +51,11 @@ coloured n = from 0 n ++ of (16 - n) (n - 1)
 abbrev pub octetBlock : List ℕ
 octetBlock = 0 ∷ 0 ∷ 2 ∷ 2 ∷ 2 ∷ 1 ∷ 2 ∷ 6 ∷ 4 ∷ 2 ∷ 3 ∷ 2 ∷ 1 ∷ 5 ∷ 7 ∷ 3 ∷ []
 
+-- the feed of 01's listing
+abbrev pub listingFeed : List ℕ
+listingFeed =
+    0x02 ∷ 0x01 ∷ 0x06 ∷ 0xE1 ∷ 0x00 ∷ 0x00 ∷ 0x06 ∷ 0x00 ∷ 0x20 ∷ 0x04 ∷ 0xE1 ∷ 0x00 ∷ 0x00 ∷ 0x04 ∷ 0x06 ∷ 0xE1 ∷ 0x00 ∷ 0x00 ∷ 0x06 ∷ 0x61 ∷ 0x05 ∷ []
+
 unfoldable pub fifteen : List Row
 fifteen =
     -- 1: half-bytes 01 23 45 67 89 AB give 012456 and 89A37B
@@ -83,9 +88,9 @@ fifteen =
     -- 15: 16x4, blocks of 1, 2, 1, 2
     ∷ reads 16 4 (of 64 0) (0xE1 ∷ 0x00 ∷ 0x00 ∷ 0x09 ∷ 0x60 ∷ 0x01 ∷ 0x60 ∷ 0x02 ∷ 0x40 ∷ []) 0 9 (line (1 ∷ 2 ∷ 1 ∷ 2 ∷ [])) (of 4 settled)
     -- the listing's feed, from an all-zero picture
-    ∷ sequence 8 4 (of 32 0)
-    (walking (0x02 ∷ 0x01 ∷ 0x06 ∷ 0xE1 ∷ 0x00 ∷ 0x00 ∷ 0x06 ∷ 0x00 ∷ 0x20 ∷ 0x04 ∷ 0xE1 ∷ 0x00 ∷ 0x00 ∷ 0x04 ∷ 0x06 ∷ 0xE1 ∷ 0x00 ∷ 0x00 ∷ 0x06 ∷ 0x61 ∷ 0x05 ∷ []) ∷ [])
+    ∷ sequence 8 4 (of 32 0) (walking listingFeed ∷ [])
     (reply (answer 0 6 ∷ answer 5 4 ∷ answer 0 6 ∷ []) (answer 0 21) ∷ []) (of 32 5) (of 2 settled) 0
+    ∷ prints listingFeed "board 8 4\n1 0 6 2\n2 5 4 2\n3 0 6 0\nend 0 21\n"
     ∷ []
 
 unfoldable pub further : List Row
@@ -168,6 +173,18 @@ further =
     -- feed numbers that fail: each size number, before the size is looked at, and a chunk's length
     ∷ sequence 8 4 (of 32 9) (walking (0x80 ∷ 0x00 ∷ 0x01 ∷ []) ∷ walking (0x51 ∷ []) ∷ walking (0x02 ∷ 0x01 ∷ 0x80 ∷ 0x00 ∷ []) ∷ walking (0x02 ∷ 0x01 ∷ 0x80 ∷ []) ∷ [])
     (reply [] (answer 12 0) ∷ reply [] (answer 13 1) ∷ reply [] (answer 12 2) ∷ reply [] (answer 13 2) ∷ []) (of 32 9) (0 ∷ 1 ∷ []) 2
+    -- the board program: no bytes; an empty chunk; a feed that ends where a chunk would start; a copy that unsettles, and numbers of two digits
+    ∷ prints [] "end 13 0\n"
+    ∷ prints (0x02 ∷ 0x01 ∷ 0x00 ∷ []) "board 8 4\n1 3 0 2\nend 0 3\n"
+    ∷ prints (0x02 ∷ 0x01 ∷ 0x05 ∷ []) "board 8 4\nend 13 3\n"
+    ∷ prints (0x03 ∷ 0x01 ∷ 0x07 ∷ chunk (0x00 ∷ 0x61 ∷ 0x05 ∷ []) ++ 0x07 ∷ chunk (0x00 ∷ 0x20 ∷ 0x00 ∷ []) ++ 0x05 ∷ chunk (0xF0 ∷ []))
+    "board 12 4\n1 0 7 1\n2 0 7 2\n3 7 4 2\nend 0 24\n"
+    -- its limits: a size that gets 1; 16,000 pixels and 16,016; 32,768 bytes and 32,769, before a bad number is looked at
+    ∷ prints (0x51 ∷ 0x32 ∷ []) "end 1 0\n"
+    ∷ prints (0x28 ∷ 0x19 ∷ []) "board 160 100\nend 0 2\n"
+    ∷ prints (0x4D ∷ 0x0D ∷ []) "too large\n"
+    ∷ prints (0x80 ∷ 0x00 ∷ of 32766 0) "end 12 0\n"
+    ∷ prints (0x80 ∷ 0x00 ∷ of 32767 0) "too large\n"
     -- the writer: the chunk of example 6; three colours, the greatest repeated; eight; sixteen
     ∷ writes 4 4 (of 16 0) (of 12 3 ++ 7 ∷ of 3 3) (chunk (0x80 ∷ 0x03 ∷ 0x07 ∷ 0x00 ∷ 0x08 ∷ []))
     ∷ writes 4 4 (of 16 0) (of 8 9 ++ of 7 4 ++ 6 ∷ []) (chunk (0xA0 ∷ 0x04 ∷ 0x06 ∷ 0x09 ∷ 0x09 ∷ 0xAA ∷ 0xAA ∷ 0x00 ∷ 0x01 ∷ []))

@@ -1,20 +1,23 @@
 -- 01, "The house feed": numbers, the chunks of a feed, and the walk. Assumes nothing.
 use Prim.Native.Nat.{ℕ, zero, suc, _+_, _-_, _*_}
 use mathlib.Core.List.{List, [], _∷_, map}
-use mathlib.Core.Bool.{_&&_, _||_}
+use mathlib.Core.Bool.{_&&_}
 use lib.Dec.{leb, ltb, eqb}
 use lib.ListN.{length, getD}
 use Rattle.spec.specs.declared.Answer.{Answer}
 use Rattle.spec.specs.declared.Size.{Size}
+use Rattle.spec.specs.declared.Varint.{Varint}
+use Rattle.spec.specs.declared.Varint.the-variants.{Bad, Value}
+use Rattle.spec.specs.declared.SizeNumbers.{SizeNumbers}
+use Rattle.spec.specs.declared.SizeNumbers.the-variants.{Broken, Sized}
+use Rattle.spec.specs.declared.Next.{Next}
+use Rattle.spec.specs.declared.Next.the-variants as Next
+use Rattle.spec.specs.declared.Step.{Step}
+use Rattle.spec.specs.declared.Step.the-variants as Step
 use Rattle.spec.specs.Basics.{if, fuelled, part}
 use Rattle.spec.specs.Answers.{ok, badVarint, feedCut, answer, checked}
 use Rattle.spec.specs.Sizes.{sizeOf, fault}
 use Rattle.spec.specs.Boards.{Board, Left, left, exact, read, inTurn}
-
--- A house number, a varint, as it is read at a place: why not, or its value and the place after it
-pub data Varint : Type 0 where
-  bad : ℕ → Varint
-  value : ℕ → ℕ → Varint
 
 -- a number is not "above 16,777,215"
 abbrev pub maxNumber : ℕ
@@ -22,19 +25,28 @@ maxNumber = 16777215
 
 -- the last group b, worth `scale`, makes v with those before it: "last of several groups zero, 12; above 16,777,215, 12"
 abbrev pub lastGroup : ℕ → ℕ → ℕ → ℕ → Varint
-lastGroup scale b v after = if (ltb 1 scale && eqb b 0 || ltb maxNumber v) (bad badVarint) (value v after)
+lastGroup scale b v after = if (ltb 1 scale && eqb b 0) (Bad badVarint) (if (ltb maxNumber v) (Bad badVarint) (Value v after))
 
 -- the group at `at`, worth `scale`, with those before it making `sum`; so many may still be read. "In order: bytes end first, 13;
 -- fourth group with its top bit, 12". "one to four groups of seven bits, lowest group first; the top bit set means another follows"
 unfoldable pub groups : ℕ → ℕ → ℕ → List ℕ → ℕ → Varint
-groups zero scale sum s at = bad badVarint
+groups zero scale sum s at = Bad badVarint
 groups (suc more) scale sum s at =
     let b = getD s at 0 in
     let next = groups more (scale * 128) (sum + (b - 128) * scale) s (at + 1) in
-    if (leb (length s) at) (bad feedCut) (if (leb 128 b) next (lastGroup scale b (sum + b * scale) (at + 1)))
+    if (leb (length s) at) (Bad feedCut) (if (leb 128 b) next (lastGroup scale b (sum + b * scale) (at + 1)))
 
 unfoldable pub varintAt : List ℕ → ℕ → Varint
 varintAt s at = groups 4 1 0 s at
+
+-- A length number read at `at`: 12 or 13 there, 13 at "the chunk's first byte" where the feed ends inside it, or a chunk
+abbrev pub chunkAt : List ℕ → ℕ → Varint → Next
+chunkAt s at (Bad e) = Next.End (answer e at)
+chunkAt s at (Value n p) = if (ltb (length s) (p + n)) (Next.End (answer feedCut p)) (Next.Chunk p (p + n))
+
+-- "then for each chunk its length and the chunk": what stands at a place, 0 at the feed's end
+unfoldable pub nextAt : List ℕ → ℕ → Next
+nextAt s at = if (ltb at (length s)) (chunkAt s at (varintAt s at)) (Next.End (answer ok at))
 
 -- A chunk of a feed: the places of its length number, of its first byte and after its last, and its bytes
 pub record Placed : Type 0 where
@@ -42,6 +54,9 @@ pub record Placed : Type 0 where
   pub first : ℕ
   pub past : ℕ
   pub bytes : List ℕ
+
+abbrev pub placed : List ℕ → ℕ → ℕ → ℕ → Placed
+placed s at first past = record { numberAt = at; first = first; past = past; bytes = part s first (past - first) }
 
 -- The chunks from a place on, and the walk's own answer at their end
 pub record Chunks : Type 0 where
@@ -51,34 +66,41 @@ pub record Chunks : Type 0 where
 abbrev pub noMore : Answer → Chunks
 noMore a = record { list = []; ending = a }
 
--- a length number read at `at`: 12 or 13 there, 13 at "the chunk's first byte" where the feed ends inside it, or a chunk and those after it
-abbrev pub chunkAt : (ℕ → Chunks) → List ℕ → ℕ → Varint → Chunks
-chunkAt onward s at (bad e) = noMore (answer e at)
-chunkAt onward s at (value n p) =
-    let chunk : Placed = record { numberAt = at; first = p; past = p + n; bytes = part s p n } in
-    let rest = onward (p + n) in
-    if (ltb (length s) (p + n)) (noMore (answer feedCut p)) (record { list = chunk ∷ rest .list; ending = rest .ending })
+-- what stands at `at`, and the chunks after it
+abbrev pub andOnward : (ℕ → Chunks) → List ℕ → ℕ → Next → Chunks
+andOnward onward s at (Next.End a) = noMore a
+andOnward onward s at (Next.Chunk first past) =
+    let rest = onward past in
+    record { list = placed s at first past ∷ rest .list; ending = rest .ending }
 
--- "then for each chunk its length and the chunk". Each takes a byte, so the feed's length is fuel enough
+-- each chunk takes a byte, so the feed's length is fuel enough
 unfoldable pub chunksFrom : ℕ → List ℕ → ℕ → Chunks
 chunksFrom fuel s at =
-    fuelled (λ at. ltb at (length s)) (λ onward at. chunkAt onward s at (varintAt s at)) (λ at. noMore (answer ok at)) fuel at
+    fuelled (λ at. ltb at (length s)) (λ onward at. andOnward onward s at (nextAt s at)) (λ at. noMore (answer ok at)) fuel at
 
--- "A feed is width/4, height/4, then": a size number that fails, or the size and the chunks
+-- "A feed is width/4, height/4, then": a size number that fails, with its own place, or the size
+abbrev pub withLines : ℕ → ℕ → Varint → SizeNumbers
+withLines c at (Bad e) = Broken (answer e at)
+withLines c at (Value r p) = Sized (sizeOf c r) p
+
+abbrev pub withColumns : List ℕ → Varint → SizeNumbers
+withColumns s (Bad e) = Broken (answer e 0)
+withColumns s (Value c p) = withLines c p (varintAt s p)
+
+unfoldable pub sizeNumbers : List ℕ → SizeNumbers
+sizeNumbers s = withColumns s (varintAt s 0)
+
+-- A feed taken apart: size numbers that fail, or the size and the chunks
 pub data Feed : Type 0 where
   broken : Answer → Feed
   sized : Size → Chunks → Feed
 
-abbrev pub withLines : List ℕ → ℕ → ℕ → Varint → Feed
-withLines s c at (bad e) = broken (answer e at)
-withLines s c at (value r p) = sized (sizeOf c r) (chunksFrom (length s) s p)
-
-abbrev pub withColumns : List ℕ → Varint → Feed
-withColumns s (bad e) = broken (answer e 0)
-withColumns s (value c p) = withLines s c p (varintAt s p)
+abbrev pub withChunks : List ℕ → SizeNumbers → Feed
+withChunks s (Broken a) = broken a
+withChunks s (Sized z p) = sized z (chunksFrom (length s) s p)
 
 unfoldable pub feedOf : List ℕ → Feed
-feedOf s = withColumns s (varintAt s 0)
+feedOf s = withChunks s (sizeNumbers s)
 
 -- What a call says: its answer, and for a walk those of the chunks inside it, in order
 pub record Reply : Type 0 where
@@ -102,3 +124,13 @@ walkFeed (sized z cs) b = checked (fault z (exact z b)) (λ a. left (reply [] a)
 
 unfoldable pub walk : List ℕ → Board → Left Reply
 walk s b = walkFeed (feedOf s) b
+
+-- One step of it, from a place on: the chunk that stands there is read, and the place after it; or nothing is left to read
+abbrev pub stepBy : Size → List ℕ → Next → Board → Left Step
+stepBy z s (Next.End a) b = left (Step.End a) b
+stepBy z s (Next.Chunk first past) b =
+    let l = read z (part s first (past - first)) b in
+    left (Step.Chunk (l .said) past) (l .board)
+
+unfoldable pub walkStep : Size → List ℕ → ℕ → Board → Left Step
+walkStep z s at b = stepBy z s (nextAt s at) b

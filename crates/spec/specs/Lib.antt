@@ -1,4 +1,4 @@
--- What a reader must believe, in paper 01's order: sizes, pictures and maps; a chunk; the writer's chunk; the feed; calls; the examples.
+-- What a reader must believe, in paper 01's order: sizes, pictures and maps; a chunk; the writer's chunk; the feed; calls; the listing; the examples.
 pub mod Basics
 pub mod Answers
 pub mod Sizes
@@ -10,5 +10,6 @@ pub mod Boards
 pub mod Writing
 pub mod Feeds
 pub mod Calls
+pub mod Listing
 pub mod Rows
 pub mod Examples

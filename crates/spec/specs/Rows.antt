@@ -1,11 +1,14 @@
 -- One row of the table of examples, and one test that says whether it holds. Assumes nothing.
 use Prim.Native.Nat.{ℕ, _+_, _-_}
+use Prim.Native.String.{String}
 use mathlib.Core.List.{List, [], _∷_, _++_}
 use mathlib.Core.Bool.{Bool, true, false, _&&_}
 use lib.Dec.{eqb}
 use lib.ListN.{length, getD, replicate}
 use Rattle.spec.specs.declared.Answer.{Answer}
 use Rattle.spec.specs.declared.Size.{Size}
+use Rattle.spec.specs.declared.Varint.{Varint}
+use Rattle.spec.specs.declared.Varint.the-variants.{Bad, Value}
 use Rattle.spec.specs.Basics.{if, fuelled, sameBy, same}
 use Rattle.spec.specs.Answers.{answer, checked}
 use Rattle.spec.specs.Sizes.{blocks}
@@ -20,9 +23,11 @@ use Rattle.spec.specs.Chunks as Chunks
 use Rattle.spec.specs.Boards.{Left, board, read, inTurn}
 use Rattle.spec.specs.Writing.{Wrote, opcodes, chunkFor, write}
 use Rattle.spec.specs.Writing as Writing
-use Rattle.spec.specs.Feeds.{Varint, bad, value, varintAt, Reply}
+use Rattle.spec.specs.Feeds.{varintAt, Reply}
 use Rattle.spec.specs.Feeds as Feeds
 use Rattle.spec.specs.Calls.{Call, call, run}
+use Rattle.spec.specs.Listing.{ascii, listing}
+use Rattle.spec.specs.Listing as Listing
 
 -- sizes are width and height in pixels
 pub data Row : Type 0 where
@@ -45,6 +50,8 @@ pub data Row : Type 0 where
   -- bytes that start with a number: its value and the place after it; or 12 or 13
   varint : List ℕ → ℕ → ℕ → Row
   noVarint : List ℕ → ℕ → Row
+  -- a feed: what the board program prints
+  prints : List ℕ → String → Row
 
 abbrev pub size : ℕ → ℕ → Size
 size w h = record { width = w; height = h }
@@ -75,12 +82,12 @@ abbrev pub isWrote : Wrote → Answer → List ℕ → Bool
 isWrote w a out = sameAnswer (w .answer) a && same (w .output) out
 
 abbrev pub isVarint : Varint → ℕ → ℕ → Bool
-isVarint (bad e) v p = false
-isVarint (value x q) v p = eqb x v && eqb q p
+isVarint (Bad e) v p = false
+isVarint (Value x q) v p = eqb x v && eqb q p
 
 abbrev pub isBad : Varint → ℕ → Bool
-isBad (bad e) x = eqb e x
-isBad (value x q) e = false
+isBad (Bad e) x = eqb e x
+isBad (Value x q) e = false
 
 unfoldable pub holds : Row → Bool
 unfolding if fuelled checked Sizes.side Sizes.fault Pictures.place Pictures.blockOf Pictures.pixelOf Pictures.shown Pictures.paint
@@ -88,7 +95,8 @@ unfolding if fuelled checked Sizes.side Sizes.fault Pictures.place Pictures.bloc
     Chunks.put Chunks.missing Chunks.body Chunks.countAt Chunks.bodyAt Chunks.opcode Chunks.blocksBy Chunks.extend Chunks.stored Chunks.step Chunks.finish Chunks.loop Chunks.decode
     read inTurn Writing.insert Writing.colours Writing.entries Writing.entryOf Writing.tabled Writing.single Writing.counting Writing.plain
     Writing.opcodeFor Writing.alike Writing.opcodes Writing.encode Writing.difference Writing.differences Writing.emit Writing.write
-    Feeds.groups Feeds.varintAt Feeds.chunksFrom Feeds.feedOf Feeds.walk call
+    Feeds.groups Feeds.varintAt Feeds.nextAt Feeds.chunksFrom Feeds.sizeNumbers Feeds.feedOf Feeds.walk call
+    Listing.decide Listing.higherDigits Listing.decimal Listing.chunkLines Listing.listing
 holds (octet bs x y) = eqb (upper24 bs) x && eqb (lower24 bs) y
 holds (sequence w h start calls replies pic m n) =
     isLeft (run (size w h) calls (board start (fresh (blocks (size w h))))) replies pic m n
@@ -110,6 +118,7 @@ holds (writes w h old new s) =
 holds (encodes os s) = same (opcodes 0 os) s
 holds (varint s v p) = isVarint (varintAt s 0) v p
 holds (noVarint s e) = isBad (varintAt s 0) e
+holds (prints s text) = same (listing s) (ascii text)
 
 abbrev pub hold : List Row → Bool
 hold [] = true

@@ -72,3 +72,51 @@ pub struct Count {
     pub answer: Answer,
     pub unsettled: usize,
 }
+
+// A house number, a varint, as it is read at a place.
+pub enum Varint {
+    // 12 or 13
+    Bad(u8),
+    // its value, and the place after it
+    Value(usize, usize),
+}
+
+// The two size numbers that a feed starts with.
+pub enum SizeNumbers {
+    // 12 or 13, at the number that fails
+    Broken(Answer),
+    // the size, and the place after both
+    Sized(Size, usize),
+}
+
+// What stands at a place behind the size numbers.
+pub enum Next {
+    // a chunk: the places of its first byte and after its last
+    Chunk(usize, usize),
+    // nothing more: the walk's own answer
+    End(Answer),
+}
+
+// One step of a walk.
+pub enum Step {
+    // the chunk's answer, and the place to go on from
+    Chunk(Answer, usize),
+    // the walk's own answer
+    End(Answer),
+}
+
+// What a program that shows a board does with a feed.
+pub enum Decision {
+    TooLarge,
+    // nothing is shown but how it ends
+    EndLine(Answer),
+    // a board of this size, and the place of the first chunk
+    Board(Size, usize),
+}
+
+// The limits of such a program. specs/Listing.antt has the same names for the definitions.
+impl Decision {
+    pub const MAX_FEED: usize = 32768;
+
+    pub const MAX_SHOWN_PIXELS: usize = 16000;
+}

@@ -14,7 +14,7 @@ use Rattle.spec.specs.Basics.{Every}
 use Rattle.spec.specs.Answers.{ok, answer, checked}
 use Rattle.spec.specs.Sizes.{allowed, pixels, columns, lines, blocks}
 use Rattle.spec.specs.Pictures.{Origin, given, held, Below, shown, blockAt}
-use Rattle.spec.specs.Maps.{settled, entry, fresh, unsettled, mapLeft, mapFault, freshMap, countMap}
+use Rattle.spec.specs.Maps.{settled, entry, remap, fresh, unsettled, mapLeft, mapFault, freshMap, countMap}
 use Rattle.spec.specs.Boards.{Board, board, left, Exact}
 use Rattle.spec.specs.Calls.{Call, call, run}
 use Rattle.spec.proofs.Lists.{every-replicate, length-from}
@@ -23,7 +23,7 @@ use Rattle.spec.proofs.Blocks.{painted, shown-plain}
 use Rattle.spec.proofs.Origins.{remap-at, below-at, entry-held}
 use Rattle.spec.proofs.Boards.{inTurn-append}
 use Rattle.trust.specs.Means.{Means}
-use Rattle.trust.specs.Demand.{IsPicture, CallFor, ran, shows, entryAt, Alike, Demand3}
+use Rattle.trust.specs.Demand.{IsStart, CallFor, ran, shows, entryAt, Alike, Demand3}
 use Rattle.trust.proofs.Meanings.{run-means}
 
 -- a sequence in two parts: the second goes on where the first ended, and the answers are appended
@@ -33,8 +33,7 @@ pub run-append : (z : Size) (xs ys : List Call) (b : Board)
     run z (xs ++ ys) b ≡ left (first .said ++ second .said) (second .board)
 run-append z = inTurn-append (call z)
 
--- what the fresh map and the count of demand 3 are to those who call for them: where 1 and 2 are not given, `freshMap` leaves that map and
--- `countMap` gives that count
+-- where 1 and 2 are not given, `freshMap` leaves a fresh map, and `countMap` gives the count of 01
 module _ (z : Size) (a : allowed z ≡ true) (m : List ℕ) (e : length m ≡ blocks z) where
   no-map-fault : mapFault z m ≡ ok
   no-map-fault = fault-none z (eqb (length m) (blocks z)) a (eq-eqb (length m) (blocks z) e)
@@ -49,21 +48,26 @@ module _ (z : Size) (a : allowed z ≡ true) (m : List ℕ) (e : length m ≡ bl
 
 module _ (z : Size) (fine : allowed z ≡ true) where
   -- a block's origin decides both its entry, from a fresh map, and what it shows
-  plain : (x : ℕ) → x < 256 → IsPicture z (replicate (pixels z) x)
-  plain x hx = record { exact = length-replicate (pixels z) x; bytes = every-replicate (pixels z) x hx }
+  plainBoard : ℕ → Board
+  plainBoard x = board (replicate (pixels z) x) (fresh (blocks z))
+
+  plain : (x : ℕ) → x < 256 → IsStart z (plainBoard x)
+  unfolding plainBoard
+  plain x hx =
+      record { exact = record { picture = length-replicate (pixels z) x; map = length-from 0 (blocks z) }; bytes = every-replicate (pixels z) x hx }
 
   -- a held block's first pixel is that of the starting picture
   first-pixel : (j x : ℕ) → j < blocks z → getD (blockAt (columns z) (replicate (pixels z) x) j) 0 0 ≡ x
   first-pixel j x h = rw (area z fine) at (shown-plain (columns z) (lines z) (allowed-size z fine .wide) x j 0 h (omega arith))
 
   settle : (o : Origin) → Below (blocks z) o
-      → (entry (fresh (blocks z)) o ≡ settled) ↔ ((r s : List ℕ) → IsPicture z r → IsPicture z s → shown (columns z) r o ≡ shown (columns z) s o)
-  unfolding shown
+      → (entry (fresh (blocks z)) o ≡ settled) ↔ ((r s : Board) → IsStart z r → IsStart z s → shown (columns z) (r .picture) o ≡ shown (columns z) (s .picture) o)
+  unfolding shown plainBoard
   settle (given px) u = ((λ e r s ir is. refl), (λ f. refl))
   settle (held j) u = (
     (λ e. absurd (omega (arith, entry-held (blocks z) j u, blocks-below-mark z fine))),
     (λ f.
-        let e = f (replicate (pixels z) 0) (replicate (pixels z) 1) (plain 0 (omega arith)) (plain 1 (omega arith)) in
+        let e = f (plainBoard 0) (plainBoard 1) (plain 0 (omega arith)) (plain 1 (omega arith)) in
         absurd (omega (arith, first-pixel j 0 u, first-pixel j 1 u, ap (λ (l : List ℕ). getD l 0 0) e))),
   )
 
@@ -84,31 +88,42 @@ module _ (z : Size) (fine : allowed z ≡ true) where
     unfolding origin
     below k = below-at (blocks z) (allowed-size z fine .some) (means .origins) (means .covers) k
 
-    module _ (p : List ℕ) (i : IsPicture z p) where
-      lent : Exact z (board p (fresh (blocks z)))
-      lent = record { picture = i .exact; map = length-from 0 (blocks z) }
+    module _ (p : Board) (i : IsStart z p) where
+      started : Board
+      started = board (p .picture) (freshMap z (p .map) .map)
+
+      map-fresh : freshMap z (p .map) .map ≡ fresh (blocks z)
+      map-fresh = ap (λ l. l .map) (starts-fresh z fine (p .map) (i .exact .map))
+
+      lent : Exact z started
+      unfolding started
+      lent = record { picture = i .exact .picture; map = ap length map-fresh ∙ length-from 0 (blocks z) }
 
       ran-said : ran z calls p .said ≡ means .said
-      ran-said = means .says (board p (fresh (blocks z))) lent
+      unfolding started
+      ran-said = means .says started lent
+
+      ran-map : ran z calls p .board .map ≡ remap (means .origins) (fresh (blocks z))
+      unfolding started
+      ran-map = ap (λ (b : Board). b .map) (means .leaves started lent) ∙ ap (remap (means .origins)) map-fresh
 
       ran-entry : (k : ℕ) → k < blocks z → entryAt z calls p k ≡ entry (fresh (blocks z)) (origin k)
       unfolding origin
-      ran-entry k h =
-          ap (λ (b : Board). getD (b .map) k 0) (means .leaves (board p (fresh (blocks z))) lent)
-          ∙ remap-at (means .origins) (fresh (blocks z)) k (rw (means .covers .size) h)
+      ran-entry k h = ap (λ (m : List ℕ). getD m k 0) ran-map ∙ remap-at (means .origins) (fresh (blocks z)) k (rw (means .covers .size) h)
 
-      ran-shows : (k : ℕ) → k < blocks z → shows z calls p k ≡ shown (columns z) p (origin k)
-      unfolding origin
+      ran-shows : (k : ℕ) → k < blocks z → shows z calls p k ≡ shown (columns z) (p .picture) (origin k)
+      unfolding origin started
       ran-shows k h =
-          ap (λ (b : Board). blockAt (columns z) (b .picture) k) (means .leaves (board p (fresh (blocks z))) lent)
-          ∙ painted (columns z) (lines z) (allowed-size z fine .wide) (means .origins) p k h
+          ap (λ (b : Board). blockAt (columns z) (b .picture) k) (means .leaves started lent)
+          ∙ painted (columns z) (lines z) (allowed-size z fine .wide) (means .origins) (p .picture) k h
 
-    alike : (p q : List ℕ) → IsPicture z p → IsPicture z q → Alike z calls p q
+    alike : (p q : Board) → IsStart z p → IsStart z q → Alike z calls p q
     alike p q ip iq =
+        let maps = ran-map p ip ∙ sym (ran-map q iq) in
         record {
           answers = ran-said p ip ∙ sym (ran-said q iq);
           maps = maps;
-          counts = ap unsettled maps;
+          counts = ap (countMap z) maps;
           settles = λ k h.
               let iff = settle (origin k) (below k) in (
                 (λ e r s ir is. ran-shows r ir k h ∙ iff .0 (sym (ran-entry p ip k h) ∙ e) r s ir is ∙ sym (ran-shows s is k h)),
@@ -116,13 +131,8 @@ module _ (z : Size) (fine : allowed z ≡ true) where
               );
           names = λ k h ne.
               let m = name (origin k) (below k) (λ e. ne (ran-entry p ip k h ∙ e)) in
-              rw (ran-entry p ip k h) (m .0, ran-shows p ip k h ∙ m .1 p, ran-shows q iq k h ∙ m .1 q);
+              rw (ran-entry p ip k h) (m .0, ran-shows p ip k h ∙ m .1 (p .picture), ran-shows q iq k h ∙ m .1 (q .picture));
         }
-      where
-        maps : ran z calls p .board .map ≡ ran z calls q .board .map
-        maps =
-            ap (λ (b : Board). b .map) (means .leaves (board p (fresh (blocks z))) (lent p ip))
-            ∙ sym (ap (λ (b : Board). b .map) (means .leaves (board q (fresh (blocks z))) (lent q iq)))
 
 pub demand3 : Demand3
 demand3 z fine calls us p q ip iq = alike z fine calls us p q ip iq

@@ -6,17 +6,19 @@ use mathlib.Core.List.{List, []}
 use lib.ListN.{length}
 use Rattle.spec.specs.declared.Answer.{Answer}
 use Rattle.spec.specs.declared.Size.{Size}
+use Rattle.spec.specs.declared.SizeNumbers.{SizeNumbers}
+use Rattle.spec.specs.declared.SizeNumbers.the-variants.{Broken, Sized}
 use Rattle.spec.specs.Answers.{ok, badVarint, feedCut, answer}
 use Rattle.spec.specs.Sizes.{blocks, fault}
 use Rattle.spec.specs.Maps.{MapLeft, mapFault, freshMap, fresh}
 use Rattle.spec.specs.Chunks.{Outcome, refused, accepted, decode, verdict}
 use Rattle.spec.specs.Boards.{Board, Left, left, exact, effect, read}
 use Rattle.spec.specs.Writing.{Wrote, emit, write}
-use Rattle.spec.specs.Feeds.{Varint, chunksFrom, varintAt, broken, withColumns, withLines, feedOf, Reply, reply, walkFeed, walk}
+use Rattle.spec.specs.Feeds.{chunksFrom, sizeNumbers, broken, withChunks, feedOf, Reply, reply, walkFeed, walk}
 use Rattle.spec.specs.Calls.{Call, reading, walking, call}
 use Rattle.spec.proofs.Lists.{by-test, by-checked}
 use Rattle.spec.proofs.Varints.{badly, short}
-use Rattle.spec.proofs.Boards.{Ends, whole, cut, ends-chunks}
+use Rattle.spec.proofs.Feeds.{Ends, whole, cut, ends-chunks}
 
 -- a refused chunk leaves picture and map
 pub refused-read : (z : Size) (s : List ℕ) (b : Board) → read z s b .said .number ≢ ok → read z s b .board ≡ b
@@ -41,16 +43,12 @@ kept-ending n x b (cut short) p q r = absurd (r refl)
 
 refused-walk : (s : List ℕ) (b : Board) → Kept b (walk s b)
 unfolding walk feedOf
-refused-walk s b = by (varintAt s 0)
+refused-walk s b = by (sizeNumbers s)
   where
-    by-lines : (c at : ℕ) (v : Varint) → Kept b (walkFeed (withLines s c at v) b)
-    by-lines c at (Varint.bad e) = λ p q r. refl
-    by-lines c at (Varint.value n first) =
+    by : (x : SizeNumbers) → Kept b (walkFeed (withChunks s x) b)
+    by (Broken a) = λ p q r. refl
+    by (Sized z first) =
         by-checked (Kept b) _ (λ a p q r. refl) (kept-ending (chunksFrom (length s) s first .ending .number) _ b (ends-chunks (length s) s first))
-
-    by : (v : Varint) → Kept b (walkFeed (withColumns s v) b)
-    by (Varint.bad e) = λ p q r. refl
-    by (Varint.value c at) = by-lines c at (varintAt s at)
 
 -- a refused call changes nothing: 1, 2 and a chunk's own refusals. A walk that ends in 12 or 13 keeps what its chunks made
 pub refused-call : (z : Size) (a : Call) (b : Board)

@@ -1,22 +1,26 @@
-//! The same call to the library under test and to the second reader, and what differs.
+//! The same call to the library under test and to the second reader or walk, and what differs.
 
 use std::fmt::Debug;
 
+use crate::feeds::FeedCase;
 use crate::generate::{Board, Case};
 use crate::library::{self, Answer, Count, Size};
 use crate::second::{self, Refusal, Step};
+use crate::second_walk::{self, Walk};
 
 /// One of the two that are compared.
 pub struct Reader {
     pub fresh_map: fn(Size, &mut [u16]) -> Answer,
     pub count: fn(Size, &mut [u16]) -> Count,
     pub read_chunk: fn(Size, &[u8], &mut [u8], &mut [u16]) -> Answer,
+    pub walk_feed: fn(&[u8], &mut [u8], &mut [u16]) -> Answer,
 }
 
 pub const LIBRARY: Reader = Reader {
     fresh_map: library::fresh_map,
     count: library::count,
     read_chunk: library::read_chunk,
+    walk_feed: library::walk_feed,
 };
 
 pub const SECOND: Reader = Reader {
@@ -32,6 +36,7 @@ pub const SECOND: Reader = Reader {
         let reading = second::read_chunk((size.width, size.height), chunk, picture, map);
         answer(&reading, chunk.len())
     },
+    walk_feed: |feed, picture, map| walk_answer(&second_walk::walk(feed, picture, map)),
 };
 
 /// 01: an accepted chunk's place is the length used; for fresh maps and counts it is 0.
@@ -40,6 +45,11 @@ fn answer<T>(reading: &Result<T, Refusal>, accepted_place: usize) -> Answer {
         Ok(_) => (0, accepted_place),
         Err(refusal) => refusal.number_and_place(),
     };
+    Answer { number, place }
+}
+
+fn walk_answer(walk: &Walk) -> Answer {
+    let (number, place) = walk.number_and_place();
     Answer { number, place }
 }
 
@@ -144,6 +154,34 @@ pub fn read_chunk(Case { board, chunk }: &Case) -> Comparison {
         differences: ours.differences(&theirs, NAMES),
         answer: theirs.answer,
         steps,
+    }
+}
+
+/// The differences between the two on one feed, with the second walk itself.
+pub struct FeedComparison {
+    pub differences: Vec<String>,
+    pub walk: Walk,
+    /// Whether the second walk left another picture or map than it was lent.
+    pub changed: bool,
+}
+
+pub fn walk_feed(FeedCase { board, feed }: &FeedCase) -> FeedComparison {
+    let ours = Outcome::of(board, |picture, map| {
+        (LIBRARY.walk_feed)(feed, picture, map)
+    });
+    let mut walked = None;
+    let theirs = Outcome::of(board, |picture, map| {
+        let walk = second_walk::walk(feed, picture, map);
+        let changed = *picture != board.picture[..] || *map != board.map[..];
+        let answer = walk_answer(&walk);
+        walked = Some((walk, changed));
+        answer
+    });
+    let (walk, changed) = walked.expect("the second walk was called");
+    FeedComparison {
+        differences: ours.differences(&theirs, ["ours", "second walk's"]),
+        walk,
+        changed,
     }
 }
 

@@ -6,7 +6,7 @@ use crate::compare::{Outcome, Reader};
 use crate::generate::Board;
 use crate::library::{Answer, Count, Size};
 
-const SETTLED: u16 = 65_535;
+pub const SETTLED: u16 = 65_535;
 
 struct Example {
     number: usize,
@@ -50,7 +50,7 @@ fn refused(
 }
 
 /// Neighbouring pixels differ, so that nothing is right by chance.
-fn lent_picture(pixels: usize) -> Vec<u8> {
+pub fn lent_picture(pixels: usize) -> Vec<u8> {
     (0..pixels).map(|pixel| 100 + (pixel % 100) as u8).collect()
 }
 
@@ -118,28 +118,39 @@ pub fn check(reader: &Reader) -> Result<(), String> {
     )
 }
 
+/// The board that an example is tried on: a picture in which no two neighbours are alike, and a
+/// fresh map.
+pub fn lent_board(size: Size) -> Board {
+    let pixels = size.width * size.height;
+    Board {
+        size,
+        picture: lent_picture(pixels),
+        map: fresh(pixels / 16),
+    }
+}
+
+/// The board that it leaves: the picture and map given, or else what was lent.
+pub fn left_board(lent: &Board, leaves: &Option<(Vec<u8>, Vec<u16>)>) -> Board {
+    let (picture, map) = leaves
+        .clone()
+        .unwrap_or((lent.picture.clone(), lent.map.clone()));
+    Board {
+        size: lent.size,
+        picture,
+        map,
+    }
+}
+
 fn check_chunk(reader: &Reader, example: &Example) -> Result<(), String> {
     let (width, height) = example.size;
     let size = Size { width, height };
-    let picture = lent_picture(width * height);
-    let lent = Board {
-        size,
-        picture,
-        map: fresh(width * height / 16),
-    };
-    let left = match &example.leaves {
-        Some((picture, map)) => &Board {
-            size,
-            picture: picture.clone(),
-            map: map.clone(),
-        },
-        None => &lent,
-    };
+    let lent = lent_board(size);
+    let left = left_board(&lent, &example.leaves);
     let (number, place) = example.answer;
     let found = Outcome::of(&lent, |picture, map| {
         (reader.read_chunk)(size, example.chunk, picture, map)
     });
-    let expected = Outcome::of(left, |_, _| Answer { number, place });
+    let expected = Outcome::of(&left, |_, _| Answer { number, place });
     equal(&found, &expected, || format!("example {}", example.number))
 }
 
@@ -171,7 +182,7 @@ fn check_count(reader: &Reader, board: &Board, number: u8, unsettled: usize) -> 
     equal(&found, &expected, || format!("count of {:?}", board.size))
 }
 
-fn equal<A: Debug + PartialEq>(
+pub fn equal<A: Debug + PartialEq>(
     found: &Outcome<A>,
     expected: &Outcome<A>,
     name: impl FnOnce() -> String,
@@ -191,6 +202,6 @@ fn map_board((width, height): (usize, usize), map: Vec<u16>) -> Board {
     }
 }
 
-fn fresh(entries: usize) -> Vec<u16> {
+pub fn fresh(entries: usize) -> Vec<u16> {
     (0..entries as u16).collect()
 }

@@ -5,7 +5,8 @@ use crate::library::Size;
 use crate::random::Random;
 
 const SETTLED: u16 = 65_535;
-const FULL: Size = Size {
+/// The greatest size.
+pub const FULL: Size = Size {
     width: 320,
     height: 200,
 };
@@ -43,12 +44,7 @@ pub fn board(seed: u64, number: u64) -> Board {
 /// length counts, and past 16,777,215, which no three bytes can state.
 pub fn long_cases(seed: u64) -> Vec<Case> {
     let random = &mut Random::for_case(seed, u64::MAX);
-    let mut plain = vec![0xE1, 0, 0, 0];
-    for _ in 0..4_000 {
-        plain.push(0xE0);
-        plain.extend(random.bytes(16));
-    }
-    state_length(&mut plain);
+    let plain = plain_chunk(random);
     let mut highest_left_out = plain.clone();
     highest_left_out[1] = 0;
     let mut longest = random.bytes(0xFF_FFFF);
@@ -72,7 +68,18 @@ pub fn long_cases(seed: u64) -> Vec<Case> {
     .into()
 }
 
-fn allowed_size(random: &mut Random) -> Size {
+/// The longest chunk that is accepted at the greatest size: every block by itself under opcode E.
+pub fn plain_chunk(random: &mut Random) -> Vec<u8> {
+    let mut plain = vec![0xE1, 0, 0, 0];
+    for _ in 0..4_000 {
+        plain.push(0xE0);
+        plain.extend(random.bytes(16));
+    }
+    state_length(&mut plain);
+    plain
+}
+
+pub fn allowed_size(random: &mut Random) -> Size {
     let (width, height) = match random.below(32) {
         0..=11 => random.pick(&[(4, 4), (8, 4), (4, 8), (8, 8), (12, 8), (16, 4), (4, 16)]),
         12..=20 => (4 * random.between(1, 10), 4 * random.between(1, 10)),
@@ -94,12 +101,12 @@ fn any_board(random: &mut Random, size: Size) -> Board {
     }
 }
 
-fn fitting_board(random: &mut Random, size: Size) -> Board {
+pub fn fitting_board(random: &mut Random, size: Size) -> Board {
     let pixels = size.width * size.height;
     lent_board(random, size, pixels, pixels / 16)
 }
 
-fn lent_board(random: &mut Random, size: Size, pixels: usize, entries: usize) -> Board {
+pub fn lent_board(random: &mut Random, size: Size, pixels: usize, entries: usize) -> Board {
     Board {
         size,
         picture: random.bytes(pixels),
@@ -162,7 +169,7 @@ fn wrong_extent(random: &mut Random, right: usize, most: usize) -> usize {
     }
 }
 
-fn board_of_wrong_lengths(random: &mut Random, size: Size) -> Board {
+pub fn board_of_wrong_lengths(random: &mut Random, size: Size) -> Board {
     let pixels = size.width * size.height;
     let entries = pixels / 16;
     let (lent_pixels, lent_entries) = match random.below(4) {
@@ -188,7 +195,7 @@ fn wrong_length(random: &mut Random, right: usize, other: usize) -> usize {
     }
 }
 
-fn any_chunk(random: &mut Random, size: Size) -> Vec<u8> {
+pub fn any_chunk(random: &mut Random, size: Size) -> Vec<u8> {
     let blocks = size.width * size.height / 16;
     match random.below(32) {
         0 => {
@@ -202,7 +209,7 @@ fn any_chunk(random: &mut Random, size: Size) -> Vec<u8> {
     }
 }
 
-fn state_length(chunk: &mut [u8]) {
+pub fn state_length(chunk: &mut [u8]) {
     let length = chunk.len() as u32;
     chunk[1..4].copy_from_slice(&length.to_be_bytes()[1..]);
 }
@@ -299,7 +306,7 @@ fn damaged(random: &mut Random, blocks: usize) -> Vec<u8> {
     chunk
 }
 
-fn flip_bits(random: &mut Random, bytes: &mut [u8]) {
+pub fn flip_bits(random: &mut Random, bytes: &mut [u8]) {
     for _ in 0..random.between(1, 3) {
         bytes[random.below(bytes.len())] ^= 1 << random.below(8);
     }
@@ -311,15 +318,21 @@ struct Built {
     opcodes: Vec<usize>,
 }
 
+pub fn valid_chunk(random: &mut Random, size: Size) -> Vec<u8> {
+    valid(random, size.width * size.height / 16).chunk
+}
+
+/// Valid, and paints few blocks or only keeps and copies: several of these leave settled blocks
+/// beside unsettled ones, so that a copy can unsettle.
+pub fn sparse_chunk(random: &mut Random, size: Size) -> Vec<u8> {
+    let weights = random.pick(&[FEW_PAINTED, MOVES]);
+    let mut builder = Builder::new(random, size.width * size.height / 16);
+    builder.weights = weights;
+    builder.finish().chunk
+}
+
 fn valid(random: &mut Random, blocks: usize) -> Built {
-    let mut builder = Builder::new(random, blocks);
-    builder.extend_to(blocks);
-    let mut built = Built {
-        chunk: builder.chunk,
-        opcodes: builder.opcodes,
-    };
-    state_length(&mut built.chunk);
-    built
+    Builder::new(random, blocks).finish()
 }
 
 /// How often each opcode is taken where it is possible, 0 to E.
@@ -332,6 +345,8 @@ const ALL_TABLES: Weights = [1, 0, 1, 0, 1, 0, 1, 0, 30, 8, 30, 8, 30, 8, 1];
 const PAIRS: Weights = [1, 0, 1, 0, 1, 0, 1, 0, 60, 20, 1, 1, 1, 1, 1];
 const QUADS: Weights = [1, 0, 1, 0, 1, 0, 1, 0, 1, 1, 60, 20, 1, 1, 1];
 const OCTETS: Weights = [1, 0, 1, 0, 1, 0, 1, 0, 1, 1, 1, 1, 60, 20, 1];
+const FEW_PAINTED: Weights = [6, 0, 0, 0, 0, 0, 3, 0, 1, 0, 0, 0, 0, 0, 1];
+const MOVES: Weights = [6, 1, 4, 1, 3, 1, 0, 0, 0, 0, 0, 0, 0, 0, 0];
 const PLAIN: Weights = [0, 0, 0, 0, 0, 0, 0, 0, 0, 0, 0, 0, 0, 0, 1];
 
 fn any_weights(random: &mut Random, blocks: usize) -> Weights {
@@ -379,6 +394,16 @@ impl<'a> Builder<'a> {
             turn: 0,
             blocks,
             stored: [0; 3],
+        }
+    }
+
+    /// All blocks that are left, and the length stated.
+    fn finish(mut self) -> Built {
+        self.extend_to(self.blocks);
+        state_length(&mut self.chunk);
+        Built {
+            chunk: self.chunk,
+            opcodes: self.opcodes,
         }
     }
 

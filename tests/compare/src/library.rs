@@ -33,6 +33,14 @@ extern "C" {
         map: *mut u16,
         map_len: usize,
     ) -> Answer;
+    fn seatboard_walk_feed(
+        feed: *const u8,
+        feed_len: usize,
+        picture: *mut u8,
+        picture_len: usize,
+        map: *mut u16,
+        map_len: usize,
+    ) -> Answer;
 }
 
 pub fn fresh_map(size: Size, map: &mut [u16]) -> Answer {
@@ -55,6 +63,21 @@ pub fn read_chunk(size: Size, chunk: &[u8], picture: &mut [u8], map: &mut [u16])
             size,
             chunk.as_ptr(),
             chunk.len(),
+            picture.as_mut_ptr(),
+            picture.len(),
+            map.as_mut_ptr(),
+            map.len(),
+        )
+    }
+}
+
+pub fn walk_feed(feed: &[u8], picture: &mut [u8], map: &mut [u16]) -> Answer {
+    // SAFETY: each pointer and length are those of one slice lent for the call, and the three
+    // slices do not overlap.
+    unsafe {
+        seatboard_walk_feed(
+            feed.as_ptr(),
+            feed.len(),
             picture.as_mut_ptr(),
             picture.len(),
             map.as_mut_ptr(),

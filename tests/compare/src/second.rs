@@ -97,11 +97,7 @@ pub fn read_chunk(
     picture: &mut [u8],
     map: &mut [u16],
 ) -> Result<Vec<Step>, Refusal> {
-    check_size(width, height)?;
-    if picture.len() != width * height {
-        return Err(Refusal::LentLength);
-    }
-    check_map(width, height, map)?;
+    check_lent((width, height), picture, map)?;
     let steps = parse(chunk, map.len())?;
     let mut blocks = cut_into_blocks(width, picture, map);
     for step in &steps {
@@ -111,7 +107,20 @@ pub fn read_chunk(
     Ok(steps)
 }
 
-fn check_size(width: usize, height: usize) -> Result<(), Refusal> {
+/// 01's order: 1, then 2 for either buffer.
+pub fn check_lent(
+    (width, height): (usize, usize),
+    picture: &[u8],
+    map: &[u16],
+) -> Result<(), Refusal> {
+    check_size(width, height)?;
+    if picture.len() != width * height {
+        return Err(Refusal::LentLength);
+    }
+    check_map(width, height, map)
+}
+
+pub fn check_size(width: usize, height: usize) -> Result<(), Refusal> {
     let allowed =
         |extent: usize, most: usize| (4..=most).contains(&extent) && extent.is_multiple_of(4);
     if allowed(width, 320) && allowed(height, 200) {

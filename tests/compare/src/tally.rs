@@ -158,10 +158,37 @@ pub fn number_counts<const N: usize>(times: &[usize; N]) -> Counts {
     })
 }
 
-fn named<const N: usize>(times: [usize; N], name: impl Fn(usize) -> String) -> Counts {
+pub fn named<const N: usize>(times: [usize; N], name: impl Fn(usize) -> String) -> Counts {
     times
         .into_iter()
         .enumerate()
         .map(|(which, times)| (name(which), times))
         .collect()
+}
+
+/// Something that a case has or has not.
+pub type Thing = (&'static str, bool);
+
+/// How many cases had each of `N` things.
+pub struct Things<const N: usize>([(&'static str, usize); N]);
+
+impl<const N: usize> Default for Things<N> {
+    fn default() -> Self {
+        Things([("", 0); N])
+    }
+}
+
+impl<const N: usize> Things<N> {
+    pub fn add(&mut self, things: [Thing; N]) {
+        for ((name, times), (thing, has)) in self.0.iter_mut().zip(things) {
+            *name = thing;
+            *times += usize::from(has);
+        }
+    }
+
+    pub fn counts(&self) -> Counts {
+        named(self.0.map(|(_, times)| times), |which: usize| {
+            self.0[which].0.into()
+        })
+    }
 }

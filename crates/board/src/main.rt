@@ -1,0 +1,72 @@
+// The board program: reads a feed on standard input, from an all-zero picture and a fresh map, and prints its listing. What it decides and
+// each line that it prints are proved in `feed` and `listing`; here they are only put one after the other.
+use libc::STDIN_FILENO;
+use libc::STDOUT_FILENO;
+use listing::Line;
+use spec::Decision;
+use spec::Size;
+use spec::Step;
+ghost use Prim.Native.Nat.{_≤_};
+ghost use lib.ListN.{length};
+ghost use Rattle.spec.specs.Sizes.{pixels, blocks};
+
+fn print(line: Line)
+    requires { ⌜ line .start ≤ length (line .text) ⌝ }
+{
+    let text = line.text;
+    let start = line.start;
+    io::write_all(STDOUT_FILENO, &text[start..]);
+}
+
+// A line for each chunk, and the end line.
+fn print_chunks(size: Size, feed: &[u8], first: usize, picture: &mut [u8], map: &mut [u16]) {
+    let mut at = first;
+    let mut chunk = 0;
+    loop {
+        match feed::step(size, feed, at, picture, map) {
+            Step::End(answer) => {
+                print(listing::end_line(answer));
+                return;
+            }
+            Step::Chunk(answer, past) => {
+                chunk += 1;
+                let count = board_map::count_unsettled(size, map);
+                print(listing::chunk_line(chunk, answer, count.unsettled));
+                at = past;
+            }
+        }
+    }
+}
+
+// A board in the room that is lent for it: an all-zero picture, and a map that is made fresh.
+fn print_board(size: Size, feed: &[u8], first: usize, zeros: &mut [u8], room: &mut [u16])
+    requires { ⌜ pixels size ≤ length (now zeros) ⌝ }
+    requires { ⌜ blocks size ≤ length (now room) ⌝ }
+{
+    let pixels = size.width * size.height;
+    let blocks = size.width / 4 * (size.height / 4);
+    let picture = &mut zeros[..pixels];
+    let map = &mut room[..blocks];
+    board_map::fresh_map(size, map);
+    print(listing::board_line(size));
+    print_chunks(size, feed, first, picture, map);
+}
+
+fn print_listing(feed: &[u8]) {
+    match feed::decide(feed) {
+        Decision::TooLarge => print(listing::too_large_line()),
+        Decision::EndLine(answer) => print(listing::end_line(answer)),
+        Decision::Board(size, first) => {
+            let mut zeros = [0u8; Decision::MAX_SHOWN_PIXELS];
+            let mut room = [0u16; Decision::MAX_SHOWN_PIXELS / 16];
+            print_board(size, feed, first, &mut zeros, &mut room);
+        }
+    }
+}
+
+fn main() {
+    // a byte more than a feed may have, so that a longer one is seen to be longer
+    let mut space = [0u8; Decision::MAX_FEED + 1];
+    let n = io::read_full(STDIN_FILENO, &mut space);
+    print_listing(&space[..n]);
+}

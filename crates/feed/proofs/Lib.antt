@@ -1,0 +1,4 @@
+pub mod Grouping
+pub mod Walking
+pub mod Opening
+pub mod Deciding

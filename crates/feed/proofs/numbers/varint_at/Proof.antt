@@ -1,0 +1,99 @@
+use Prim.Native.Nat.{_-_}
+use mathlib.Core.Path.{sym, _∙_}
+use lib.ListN.{getD}
+use native.Mathlib.Omega.{arith}
+use Rattle.feed.proofs.Grouping.{Grouping, grouping-none, scale-small, group-small, grouping-cut, grouping-last, grouping-more, grouping-end}
+use borrow.Author.Needs.{needs}
+use Rattle.feed.proofs.numbers.varint_at.Statement.{statement}
+use Rattle.feed.proofs.numbers.varint_at.Tie as tie
+
+abbrev Inv-loop : tie.InvT-loop
+Inv-loop feed at more₀ scale₀ sum₀ place₀ more scale sum place = Grouping feed at more scale sum place
+
+abbrev μ-loop : tie.MeasureT-loop
+μ-loop feed at more₀ scale₀ sum₀ place₀ more scale sum place = more
+
+loop-holds : tie.Need-loop-holds Inv-loop μ-loop
+loop-holds c = grouping-none _ _
+
+returns : tie.Need-returns Inv-loop μ-loop
+returns c = sym (grouping-cut (c .before .before .loop .inv) (omega arith) (omega arith))
+
+shared-slice-read-group : tie.Need-shared-slice-read-group Inv-loop μ-loop
+shared-slice-read-group c = search needs
+
+cast-group : tie.Need-cast-group Inv-loop μ-loop
+cast-group c = omega (arith, c .shared-slice-known2 .given (c .before .before .before .loop .place))
+
+add-place : tie.Need-add-place Inv-loop μ-loop
+add-place c = search needs
+
+mul-last-group : tie.Need-mul-last-group Inv-loop μ-loop
+mul-last-group c =
+    let g = c .before .before .before .before .loop .inv in
+    let group = getD (c .before .before .before .before .before .before .args .feed .now) (c .before .before .before .before .loop .place) 0 in
+    omega (arith, group-small g group (omega arith))
+
+add-last-group : tie.Need-add-last-group Inv-loop μ-loop
+add-last-group c =
+    let g = c .before .before .before .before .loop .inv in
+    let group = getD (c .before .before .before .before .before .before .args .feed .now) (c .before .before .before .before .loop .place) 0 in
+    omega (arith, g .sum-small, scale-small g, group-small g group (omega arith))
+
+last-group-requires : tie.Need-last-group-requires Inv-loop μ-loop
+last-group-requires c κs = search needs
+
+returns-2 : tie.Need-returns-2 Inv-loop μ-loop
+returns-2 c = c .last-group .ensures ∙ sym (grouping-last (c .before .before .before .before .before .loop .inv) (omega arith) (omega arith) (omega arith))
+
+mul-sum : tie.Need-mul-sum Inv-loop μ-loop
+mul-sum c =
+    let g = c .before .before .before .before .loop .inv in
+    let group = getD (c .before .before .before .before .before .before .args .feed .now) (c .before .before .before .before .loop .place) 0 in
+    let byte = c .before .shared-slice-known2 .given (c .before .before .before .before .loop .place) in
+    omega (arith, group-small g (group - 128) (omega (arith, byte)))
+
+add-sum : tie.Need-add-sum Inv-loop μ-loop
+add-sum c =
+    let g = c .before .before .before .before .loop .inv in
+    let group = getD (c .before .before .before .before .before .before .args .feed .now) (c .before .before .before .before .loop .place) 0 in
+    let byte = c .before .shared-slice-known2 .given (c .before .before .before .before .loop .place) in
+    omega (arith, g .sum-small, scale-small g, group-small g (group - 128) (omega (arith, byte)))
+
+mul-scale : tie.Need-mul-scale Inv-loop μ-loop
+mul-scale c = omega (arith, scale-small (c .before .before .before .before .loop .inv))
+
+sub-more : tie.Need-sub-more Inv-loop μ-loop
+sub-more c = search needs
+
+loop-less : tie.Need-loop-less Inv-loop μ-loop
+loop-less c = search needs
+
+loop-again : tie.Need-loop-again Inv-loop μ-loop
+loop-again c = grouping-more (c .before .before .before .before .loop .inv) (omega arith) (omega arith) (omega arith) (omega (arith, c .before .shared-slice-known2 .given (c .before .before .before .before .loop .place)))
+
+returns-3 : tie.Need-returns-3 Inv-loop μ-loop
+returns-3 c = sym (grouping-end (c .before .loop .inv) (omega arith))
+
+pub varint-at-spec : {M : Type 1} → statement M
+varint-at-spec =
+    tie.close
+    (tie.spec
+    Inv-loop
+    μ-loop
+    loop-holds
+    returns
+    shared-slice-read-group
+    cast-group
+    add-place
+    mul-last-group
+    add-last-group
+    last-group-requires
+    returns-2
+    mul-sum
+    add-sum
+    mul-scale
+    sub-more
+    loop-less
+    loop-again
+    returns-3)

@@ -1,0 +1,94 @@
+// The walk of a feed, chunk by chunk over a lent picture and map.
+use crate::numbers;
+use spec::Answer;
+use spec::Next;
+use spec::Size;
+use spec::SizeNumbers;
+use spec::Step;
+use spec::Varint;
+ghost use mathlib.Core.Path.{_≡_};
+ghost use lib.ListN.{length};
+ghost use Rattle.spec.specs.Boards.{board};
+ghost use Rattle.spec.specs.Feeds.{nextAt, chunksFrom, readAll, walkStep, walk};
+
+// What stands at a place behind the size numbers: a chunk, or the walk's end.
+fn next_at(feed: &[u8], at: usize) -> Next
+    ensures { λ r. ⌜ r ≡ nextAt (now (feed .entry)) at ⌝ }
+{
+    if at >= feed.len() {
+        return Next::End(Answer {
+            number: Answer::OK,
+            place: at,
+        });
+    }
+    match numbers::varint_at(feed, at) {
+        Varint::Bad(number) => Next::End(Answer { number, place: at }),
+        Varint::Value(n, first) => {
+            if feed.len() - first < n {
+                return Next::End(Answer {
+                    number: Answer::FEED_CUT,
+                    place: first,
+                });
+            }
+            Next::Chunk(first, first + n)
+        }
+    }
+}
+
+// One step of a walk: reads the chunk whose length number stands at a place, and says where to go on.
+pub fn step(size: Size, feed: &[u8], at: usize, picture: &mut [u8], map: &mut [u16]) -> Step
+    ensures { λ r. ⌜ r ≡ walkStep size (now (feed .entry)) at (board (now (picture .entry)) (now (map .entry))) .said ⌝ }
+    ensures { λ _. ⌜ now (picture .exit) ≡ walkStep size (now (feed .entry)) at (board (now (picture .entry)) (now (map .entry))) .board .picture ⌝ }
+    ensures { λ _. ⌜ now (map .exit) ≡ walkStep size (now (feed .entry)) at (board (now (picture .entry)) (now (map .entry))) .board .map ⌝ }
+{
+    match next_at(feed, at) {
+        Next::End(answer) => Step::End(answer),
+        Next::Chunk(first, past) => {
+            let answer = smc::read_chunk(size, &feed[first..past], picture, map);
+            Step::Chunk(answer, past)
+        }
+    }
+}
+
+// The chunks from a place on, each over what the one before it left. It needs no size numbers, and tests nothing that reading a chunk
+// does not test.
+pub fn walk_chunks(
+    size: Size,
+    feed: &[u8],
+    first: usize,
+    picture: &mut [u8],
+    map: &mut [u16],
+) -> Answer
+    ensures { λ r. ⌜ r ≡ readAll size (chunksFrom (length (now (feed .entry))) (now (feed .entry)) first) (board (now (picture .entry)) (now (map .entry))) .said .answer ⌝ }
+    ensures { λ _. ⌜ now (picture .exit) ≡ readAll size (chunksFrom (length (now (feed .entry))) (now (feed .entry)) first) (board (now (picture .entry)) (now (map .entry))) .board .picture ⌝ }
+    ensures { λ _. ⌜ now (map .exit) ≡ readAll size (chunksFrom (length (now (feed .entry))) (now (feed .entry)) first) (board (now (picture .entry)) (now (map .entry))) .board .map ⌝ }
+{
+    let mut at = first;
+    loop {
+        match step(size, feed, at, picture, map) {
+            Step::End(answer) => return answer,
+            Step::Chunk(_, past) => at = past,
+        }
+    }
+}
+
+// Walks a whole feed over a lent picture and map.
+pub fn walk_feed(feed: &[u8], picture: &mut [u8], map: &mut [u16]) -> Answer
+    ensures { λ r. ⌜ r ≡ walk (now (feed .entry)) (board (now (picture .entry)) (now (map .entry))) .said .answer ⌝ }
+    ensures { λ _. ⌜ now (picture .exit) ≡ walk (now (feed .entry)) (board (now (picture .entry)) (now (map .entry))) .board .picture ⌝ }
+    ensures { λ _. ⌜ now (map .exit) ≡ walk (now (feed .entry)) (board (now (picture .entry)) (now (map .entry))) .board .map ⌝ }
+{
+    match numbers::size_numbers(feed) {
+        SizeNumbers::Broken(answer) => answer,
+        SizeNumbers::Sized(size, first) => {
+            let fault = sizes::board_fault(size, picture.len(), map.len());
+            if fault != Answer::OK {
+                return Answer {
+                    number: fault,
+                    place: 0,
+                };
+            }
+            walk_chunks(size, feed, first, picture, map)
+        }
+    }
+}

@@ -1,0 +1,150 @@
+-- The loop over the chunks of a feed: what may stand at a place, that its fuel never runs out, and what one step of a walk leaves to do.
+-- Assumes nothing.
+use Prim.Native.Nat.{ℕ, suc, _+_, _-_, _<_, _≤_}
+use mathlib.Core.Path.{_≡_, refl, subst, subst⁻¹}
+use mathlib.Core.List.{List, [], _∷_, _++_}
+use mathlib.Core.Bool.{Bool, true, false}
+use native.Mathlib.Omega.{arith}
+use lib.ListN.{length}
+use lib.Dec.{ltb}
+use borrow.Author.Tests.{ltb-true, ltb-false, le-ltb}
+use Rattle.spec.specs.declared.Answer.{Answer}
+use Rattle.spec.specs.declared.Size.{Size}
+use Rattle.spec.specs.declared.Varint.{Varint}
+use Rattle.spec.specs.declared.Next.{Next}
+use Rattle.spec.specs.declared.Next.the-variants as Next
+use Rattle.spec.specs.declared.Step.{Step}
+use Rattle.spec.specs.declared.Step.the-variants as Step
+use Rattle.spec.specs.Basics.{if}
+use Rattle.spec.specs.Answers.{ok, answer}
+use Rattle.spec.specs.Maps.{unsettled}
+use Rattle.spec.specs.Boards.{Board, Left, left, inTurn}
+use Rattle.spec.specs.Feeds.{chunkAt, nextAt, Chunks, andOnward, chunksFrom, Reply, reply, readAll, stepBy, walkStep}
+use Rattle.spec.specs.Listing.{chunkLine, chunkLines}
+use Rattle.spec.proofs.Fuel.{by-fuel, fuel-end, fuel-enough, fuel-turn}
+use Rattle.spec.proofs.Lists.{by-test}
+use Rattle.spec.proofs.Varints.{Cut, short, Read, refused, got, read-varint}
+
+-- a walk ends with 0, 12 or 13
+pub data Ends : ℕ → Type 0 where
+  whole : Ends ok
+  cut : {e : ℕ} → Cut e → Ends e
+
+-- a chunk that lies in the feed, behind its number
+pub record Lies (s : List ℕ) (at first past : ℕ) : Type 0 where
+  pub behind : at < first
+  pub up : first ≤ past
+  pub within : past ≤ length s
+
+-- what stands at a place
+pub data Stands (s : List ℕ) (at : ℕ) : Next → Type 0 where
+  over : {a : Answer} → Ends (a .number) → Stands s at (Next.End a)
+  chunk : {first past : ℕ} → Lies s at first past → Stands s at (Next.Chunk first past)
+
+stands-chunk : (s : List ℕ) (at : ℕ) {x : Varint} → Read s at x → Stands s at (chunkAt s at x)
+stands-chunk s at (refused c) = over (cut c)
+stands-chunk s at (got {v} {after} g) =
+    by-test (Stands s at) (ltb (length s) (after + v)) (λ t. over (cut short)) (λ t.
+    let fits = ltb-false (length s) (after + v) t in
+    chunk (record { behind = g .further; up = omega arith; within = omega arith }))
+
+pub stands : (s : List ℕ) (at : ℕ) → Stands s at (nextAt s at)
+unfolding nextAt
+stands s at = by-test (Stands s at) (ltb at (length s)) (λ t. stands-chunk s at (read-varint s at)) (λ t. over whole)
+
+-- of a chunk that code was given
+abbrev LiesBy : List ℕ → ℕ → Next → Type 0
+LiesBy s at (Next.End a) = Unit {0}
+LiesBy s at (Next.Chunk first past) = Lies s at first past
+
+lies-by : {s : List ℕ} {at : ℕ} {x : Next} → Stands s at x → LiesBy s at x
+lies-by (over e) = tt
+lies-by (chunk l) = l
+
+pub chunk-lies : (s : List ℕ) (at : ℕ) {first past : ℕ} → nextAt s at ≡ Next.Chunk first past → Lies s at first past
+chunk-lies s at e = subst (LiesBy s at) e (lies-by (stands s at))
+
+same-onward : (f g : ℕ → Chunks) (s : List ℕ) (at : ℕ) {x : Next} → ((p : ℕ) → at < p → f p ≡ g p) → Stands s at x
+    → andOnward f s at x ≡ andOnward g s at x
+same-onward f g s at h (over e) = refl
+same-onward f g s at h (chunk {past} l) = rw (h past (omega arith))
+
+module _ (s : List ℕ) where
+  feedLeft : ℕ → ℕ
+  feedLeft at = length s - at
+
+  feed-done : (at : ℕ) → feedLeft at ≡ 0 → ltb at (length s) ≡ false
+  unfolding feedLeft
+  feed-done at e = le-ltb at (length s) (omega arith)
+
+  feed-less : (f g : ℕ → Chunks) (at : ℕ) → ltb at (length s) ≡ true → ((p : ℕ) → feedLeft p < feedLeft at → f p ≡ g p)
+      → andOnward f s at (nextAt s at) ≡ andOnward g s at (nextAt s at)
+  unfolding feedLeft
+  feed-less f g at t h =
+      let l = ltb-true at (length s) t in
+      same-onward f g s at (λ p o. h p (omega arith)) (stands s at)
+
+  pub chunks-enough : (fuel at : ℕ) → length s ≤ at + fuel → chunksFrom (suc fuel) s at ≡ chunksFrom fuel s at
+  unfolding chunksFrom feedLeft
+  chunks-enough fuel at h = fuel-enough _ _ _ feedLeft feed-done feed-less fuel at (omega arith)
+
+  -- the loop's equation, with the fuel that `feedOf` gives it, or more
+  module _ (fuel : ℕ) (enough : length s ≤ fuel) where
+    unroll-turn : (at : ℕ) → ltb at (length s) ≡ true → chunksFrom fuel s at ≡ andOnward (λ p. chunksFrom fuel s p) s at (nextAt s at)
+    unfolding chunksFrom feedLeft
+    unroll-turn at t = fuel-turn _ _ _ feedLeft feed-done feed-less fuel at (omega arith) t
+
+    unroll-end : (at : ℕ) → ltb at (length s) ≡ false → chunksFrom fuel s at ≡ andOnward (λ p. chunksFrom fuel s p) s at (nextAt s at)
+    unfolding chunksFrom nextAt if
+    unroll-end at t = rw t (fuel-end _ _ _ fuel at t)
+
+    pub unroll-chunks : (at : ℕ) → chunksFrom fuel s at ≡ andOnward (λ p. chunksFrom fuel s p) s at (nextAt s at)
+    unroll-chunks at = by (ltb at (length s)) refl
+      where
+        by : (t : Bool) → ltb at (length s) ≡ t → chunksFrom fuel s at ≡ andOnward (λ p. chunksFrom fuel s p) s at (nextAt s at)
+        by true e = unroll-turn at e
+        by false e = unroll-end at e
+
+ends-onward : (onward : ℕ → Chunks) (s : List ℕ) (at : ℕ) {x : Next} → ((p : ℕ) → Ends (onward p .ending .number)) → Stands s at x
+    → Ends (andOnward onward s at x .ending .number)
+ends-onward onward s at h (over e) = e
+ends-onward onward s at h (chunk {past} l) = h past
+
+pub ends-chunks : (fuel : ℕ) (s : List ℕ) (at : ℕ) → Ends (chunksFrom fuel s at .ending .number)
+unfolding chunksFrom
+ends-chunks fuel s at =
+    by-fuel _ _ _ (λ (at : ℕ). Unit {0}) (λ (cs : Chunks). Ends (cs .ending .number))
+    (λ onward at u h. ends-onward onward s at (λ p. h p tt) (stands s at)) (λ at u. whole) fuel at tt
+
+-- a walk whose first chunk says a
+abbrev pub saidFirst : Answer → Left Reply → Left Reply
+saidFirst a l = left (reply (a ∷ l .said .inside) (l .said .answer)) (l .board)
+
+-- What one step, over the board b, leaves to do of the chunks `cs`: those after it over the board that it left; or nothing
+pub record Onward (z : Size) (s : List ℕ) (fuel at : ℕ) (cs : Chunks) (b : Board) (a : Answer) (past : ℕ) (after : Board) : Type 0 where
+  pub further : at < past
+  pub within : past ≤ length s
+  pub walked : readAll z cs b ≡ saidFirst a (readAll z (chunksFrom fuel s past) after)
+  pub listed : (i : ℕ) → chunkLines z i (cs .list) b ≡ chunkLine i a (unsettled (after .map)) ++ chunkLines z (i + 1) (chunksFrom fuel s past .list) after
+
+pub record Over (z : Size) (cs : Chunks) (b : Board) (a : Answer) (after : Board) : Type 0 where
+  pub walked : readAll z cs b ≡ left (reply [] a) after
+  pub listed : (i : ℕ) → chunkLines z i (cs .list) b ≡ []
+  pub same : after ≡ b
+
+module _ (z : Size) (s : List ℕ) (fuel : ℕ) where
+  abbrev pub Stepped : ℕ → Chunks → Board → Step → Board → Type 0
+  Stepped at cs b (Step.End a) after = Over z cs b a after
+  Stepped at cs b (Step.Chunk a past) after = Onward z s fuel at cs b a past after
+
+  stepped-by : (at : ℕ) (b : Board) {x : Next} → Stands s at x
+      → Stepped at (andOnward (λ p. chunksFrom fuel s p) s at x) b (stepBy z s x b .said) (stepBy z s x b .board)
+  unfolding inTurn chunkLines
+  stepped-by at b (over e) = record { walked = refl; listed = λ i. refl; same = refl }
+  stepped-by at b (chunk l) = record { further = omega arith; within = l .within; walked = refl; listed = λ i. refl }
+
+  pub stepped : length s ≤ fuel → (at : ℕ) (b : Board) → Stepped at (chunksFrom fuel s at) b (walkStep z s at b .said) (walkStep z s at b .board)
+  unfolding walkStep
+  stepped h at b =
+      subst⁻¹ (λ (cs : Chunks). Stepped at cs b (stepBy z s (nextAt s at) b .said) (stepBy z s (nextAt s at) b .board)) (unroll-chunks s fuel h at)
+      (stepped-by at b (stands s at))

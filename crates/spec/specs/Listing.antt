@@ -1,0 +1,91 @@
+-- 01, "The house feed and the board program": what the board program decides and prints. Assumes nothing.
+use Prim.Native.Nat.{ℕ, zero, suc, _+_, _/_, _%_}
+use Prim.Native.Char.{code}
+use Prim.Native.String.{String, len, charAt}
+use mathlib.Core.List.{List, [], _∷_, _++_, map}
+use lib.Dec.{ltb, eqb}
+use lib.ListN.{length, replicate}
+use Rattle.spec.specs.declared.Answer.{Answer}
+use Rattle.spec.specs.declared.Size.{Size}
+use Rattle.spec.specs.declared.SizeNumbers.{SizeNumbers}
+use Rattle.spec.specs.declared.SizeNumbers.the-variants.{Broken, Sized}
+use Rattle.spec.specs.declared.Decision.{Decision}
+use Rattle.spec.specs.declared.Decision.the-variants as Decision
+use Rattle.spec.specs.Basics.{if, from}
+use Rattle.spec.specs.Answers.{badSize, answer}
+use Rattle.spec.specs.Sizes.{allowed, pixels, blocks}
+use Rattle.spec.specs.Maps.{fresh, unsettled}
+use Rattle.spec.specs.Boards.{Board, board, read}
+use Rattle.spec.specs.Feeds.{Placed, chunksFrom, sizeNumbers}
+
+-- "It takes feeds up to 32,768 bytes and 16,000 pixels"
+abbrev pub maxFeed : ℕ
+maxFeed = 32768
+
+abbrev pub maxShownPixels : ℕ
+maxShownPixels = 16000
+
+-- "a size that gets 1 is not measured against the 16,000. Where a size number fails, or gets 1, only the end line is printed (place 0 for 1)"
+abbrev pub decideBy : SizeNumbers → Decision
+decideBy (Broken a) = Decision.EndLine a
+decideBy (Sized z first) =
+    if (allowed z) (if (ltb maxShownPixels (pixels z)) Decision.TooLarge (Decision.Board z first)) (Decision.EndLine (answer badSize 0))
+
+-- "the feed's length is looked at before anything else"
+unfoldable pub decide : List ℕ → Decision
+decide s = if (ltb maxFeed (length s)) Decision.TooLarge (decideBy (sizeNumbers s))
+
+-- Text is ASCII
+abbrev pub ascii : String → List ℕ
+ascii t = map (λ i. code (charAt t i)) (from 0 (len t))
+
+-- A number in front of a text, with the fewest digits that hold it. It has 64 bits, so 20 digits at most
+abbrev pub digit : ℕ → ℕ
+digit n = code "0" + n % 10
+
+unfoldable pub higherDigits : ℕ → ℕ → List ℕ → List ℕ
+higherDigits zero n text = text
+higherDigits (suc more) n text = if (eqb n 0) text (higherDigits more (n / 10) (digit n ∷ text))
+
+unfoldable pub decimal : ℕ → List ℕ → List ℕ
+decimal n text = higherDigits 19 (n / 10) (digit n ∷ text)
+
+-- numbers with a space before each, and the line's end
+abbrev pub spaced : List ℕ → List ℕ
+spaced [] = ascii "\n"
+spaced (n ∷ ns) = code " " ∷ decimal n (spaced ns)
+
+-- "board 8 4", "end 0 21", "too large"
+abbrev pub boardLine : Size → List ℕ
+boardLine z = ascii "board" ++ spaced (z .width ∷ z .height ∷ [])
+
+abbrev pub endLine : Answer → List ℕ
+endLine a = ascii "end" ++ spaced (a .number ∷ a .place ∷ [])
+
+abbrev pub tooLargeLine : List ℕ
+tooLargeLine = ascii "too large\n"
+
+-- "(chunk, number, place, unsettled)"
+abbrev pub chunkLine : ℕ → Answer → ℕ → List ℕ
+chunkLine i a n = decimal i (spaced (a .number ∷ a .place ∷ n ∷ []))
+
+-- the lines of the chunks, each read over what the one before it left; i is the first one's number
+unfoldable pub chunkLines : Size → ℕ → List Placed → Board → List ℕ
+chunkLines z i [] b = []
+chunkLines z i (c ∷ cs) b =
+    let l = read z (c .bytes) b in
+    chunkLine i (l .said) (unsettled (l .board .map)) ++ chunkLines z (i + 1) cs (l .board)
+
+-- "from an all-zero picture and a fresh map"
+abbrev pub startingBoard : Size → Board
+startingBoard z = board (replicate (pixels z) 0) (fresh (blocks z))
+
+abbrev pub listingBy : List ℕ → Decision → List ℕ
+listingBy s Decision.TooLarge = tooLargeLine
+listingBy s (Decision.EndLine a) = endLine a
+listingBy s (Decision.Board z first) =
+    let cs = chunksFrom (length s) s first in
+    boardLine z ++ chunkLines z 1 (cs .list) (startingBoard z) ++ endLine (cs .ending)
+
+unfoldable pub listing : List ℕ → List ℕ
+listing s = listingBy s (decide s)

@@ -1,0 +1,165 @@
+//! Feeds made by hand, with what 01 says of them; the first is the one whose listing 01 gives.
+//! All are walked over a fresh map, and all but one over an 8x4 board.
+
+use crate::compare::{Outcome, Reader};
+use crate::examples::{equal, left_board, lent_board, lent_picture, SETTLED};
+use crate::generate::FULL;
+use crate::library::{Answer, Size};
+
+const LENT: Size = Size {
+    width: 8,
+    height: 4,
+};
+
+struct Example {
+    size: Size,
+    feed: Vec<u8>,
+    answer: (u8, usize),
+    /// What the walk leaves; none where it leaves what was lent.
+    leaves: Option<(Vec<u8>, Vec<u16>)>,
+}
+
+fn unchanged(feed: &[u8], answer: (u8, usize)) -> Example {
+    Example {
+        size: LENT,
+        feed: feed.to_vec(),
+        answer,
+        leaves: None,
+    }
+}
+
+fn changed(feed: &[u8], answer: (u8, usize), picture: &[u8], map: [u16; 2]) -> Example {
+    Example {
+        size: LENT,
+        feed: feed.to_vec(),
+        answer,
+        leaves: Some((picture.to_vec(), map.to_vec())),
+    }
+}
+
+#[rustfmt::skip]
+pub const LISTING: &[u8] = &[
+    2, 1,
+    6, 0xE1, 0, 0, 6, 0x00, 0x20,
+    4, 0xE1, 0, 0, 4,
+    6, 0xE1, 0, 0, 6, 0x61, 5,
+];
+
+/// Both blocks of colour 5, with the length in front.
+const FIVES: [u8; 7] = [6, 0xE1, 0, 0, 6, 0x61, 5];
+
+fn whole_feeds() -> Vec<Example> {
+    let full = Example {
+        size: FULL,
+        ..unchanged(&[80, 50], (0, 2))
+    };
+    // Block 0 filled, then copied to block 1: the second chunk sees what the first one left.
+    let nine = [7, 0xE1, 0, 0, 7, 0x60, 9, 0x00];
+    let copied = [6, 0xE1, 0, 0, 6, 0x00, 0x20];
+    let one_after_other = [&[2, 1], &nine[..], &copied].concat();
+    // A length of 300, AC 02, whose chunk states 0 and is refused.
+    let three_hundred = [&[2, 1, 0xAC, 2], &[0; 300][..], &FIVES].concat();
+    // 4x8 has buffers of the same lengths; there block 0 is the first sixteen pixels.
+    let upright = [1, 2, 7, 0xE1, 0, 0, 7, 0x60, 5, 0x00];
+    let upper_half = [&[5; 16], &lent_picture(32)[16..]].concat();
+    let settled = [SETTLED; 2];
+    vec![
+        changed(LISTING, (0, 21), &[5; 32], settled),
+        full,
+        unchanged(&[2, 1], (0, 2)),
+        unchanged(&[2, 1, 0], (0, 3)),
+        unchanged(&[2, 1, 0, 0], (0, 4)),
+        // The chunk's bytes are those of the feed's own length, whatever the chunk states.
+        unchanged(&[2, 1, 7, 0xE1, 0, 0, 6, 0x61, 5, 0], (0, 10)),
+        changed(&one_after_other, (0, 17), &[9; 32], settled),
+        changed(&three_hundred, (0, 311), &[5; 32], settled),
+        changed(&upright, (0, 10), &upper_half, [SETTLED, 1]),
+    ]
+}
+
+/// The same number at each of the three places, where it fails in the same way.
+fn failing_numbers() -> Vec<Example> {
+    let numbers: [(&[u8], u8); 11] = [
+        (&[0x80, 0x80, 0x80, 0x80], 12),
+        (&[0x80, 0x80, 0x80, 0x80, 0], 12),
+        (&[0x81, 0x80, 0x80, 0x80, 0x80, 0], 12),
+        (&[0x80, 0x80, 0x80], 13),
+        (&[0x80, 0x80], 13),
+        (&[0xFF], 13),
+        (&[0x80, 0], 12),
+        (&[0x81, 0x80, 0], 12),
+        (&[0x81, 0x80, 0x80, 0], 12),
+        (&[0x80, 0x80, 0x80, 8], 12),
+        (&[0xFF, 0xFF, 0xFF, 0x7F], 12),
+    ];
+    let all_places = |(number, fails): (&[u8], u8)| {
+        let after_chunk = [&[2, 1], &FIVES[..], number].concat();
+        [
+            unchanged(number, (fails, 0)),
+            unchanged(&[&[2], number].concat(), (fails, 1)),
+            unchanged(&[&[2, 1], number].concat(), (fails, 2)),
+            changed(&after_chunk, (fails, 9), &[5; 32], [SETTLED; 2]),
+        ]
+    };
+    let mut examples: Vec<Example> = numbers.into_iter().flat_map(all_places).collect();
+    examples.push(unchanged(&[], (13, 0)));
+    examples.push(unchanged(&[2], (13, 1)));
+    examples
+}
+
+fn sizes_and_orders() -> Vec<Example> {
+    vec![
+        unchanged(&[0, 1], (1, 0)),
+        unchanged(&[2, 0], (1, 0)),
+        unchanged(&[81, 1], (1, 0)),
+        unchanged(&[1, 51], (1, 0)),
+        unchanged(&[0xFF, 0xFF, 0xFF, 7, 1], (1, 0)),
+        unchanged(&[2, 0xFF, 0xFF, 0xFF, 7], (1, 0)),
+        unchanged(&[2, 2], (2, 0)),
+        unchanged(&[1, 1], (2, 0)),
+        // Both size numbers are read before the size is checked.
+        unchanged(&[0, 0x80], (13, 1)),
+        unchanged(&[0x80, 1, 0x80], (13, 2)),
+        unchanged(&[0x80, 1, 0x80, 0], (12, 2)),
+        // 1 and 2 end the walk before a length is looked at.
+        unchanged(&[81, 1, 0x80, 0], (1, 0)),
+        unchanged(&[2, 2, 0x80, 0], (2, 0)),
+        unchanged(&[2, 2, 9], (2, 0)),
+    ]
+}
+
+fn cut_chunks() -> Vec<Example> {
+    let after_chunk = [&[2, 1], &FIVES[..], &[6, 0xE1, 0]].concat();
+    vec![
+        unchanged(&[2, 1, 5], (13, 3)),
+        unchanged(&[2, 1, 5, 0xE1, 0, 0, 5], (13, 3)),
+        unchanged(&[2, 1, 0xAC, 2, 0xE1], (13, 4)),
+        unchanged(&[2, 1, 0xFF, 0xFF, 0xFF, 7], (13, 6)),
+        unchanged(&[2, 1, 0, 5], (13, 4)),
+        changed(&after_chunk, (13, 10), &[5; 32], [SETTLED; 2]),
+    ]
+}
+
+pub fn check(reader: &Reader) -> Result<(), String> {
+    let groups = [
+        whole_feeds(),
+        failing_numbers(),
+        sizes_and_orders(),
+        cut_chunks(),
+    ];
+    groups
+        .iter()
+        .flatten()
+        .try_for_each(|example| check_feed(reader, example))
+}
+
+fn check_feed(reader: &Reader, example: &Example) -> Result<(), String> {
+    let lent = lent_board(example.size);
+    let left = left_board(&lent, &example.leaves);
+    let (number, place) = example.answer;
+    let found = Outcome::of(&lent, |picture, map| {
+        (reader.walk_feed)(&example.feed, picture, map)
+    });
+    let expected = Outcome::of(&left, |_, _| Answer { number, place });
+    equal(&found, &expected, || format!("feed {:02X?}", example.feed))
+}

@@ -1,0 +1,242 @@
+//! What the compared feeds had in them, so that a run which missed something says so.
+
+use crate::compare::FeedComparison;
+use crate::feeds::FeedCase;
+use crate::library::Size;
+use crate::second_walk::{self, ChunkRead, Fault, Number, Stop};
+use crate::tally::{named, Counts, Thing, Things};
+
+/// 01, "Numbered outcomes": those that a walk can have.
+const ENDS: [(u8, &str); 5] = [
+    (0, "accepted"),
+    (1, "width or height not allowed"),
+    (2, "a lent picture or map is not of the exact length"),
+    (12, "feed number badly formed"),
+    (13, "feed ends inside a number or a chunk"),
+];
+
+/// In the order of `Number` and of `Fault`.
+const NUMBERS: [&str; 3] = [
+    "the first size number",
+    "the second size number",
+    "a chunk's length",
+];
+const FAULTS: [&str; 3] = [
+    "fourth group with its top bit",
+    "last of several groups zero",
+    "above 16,777,215",
+];
+
+/// The least lengths whose numbers have so many groups.
+const GROUPS: [(usize, &str); 4] = [
+    (0, "one group"),
+    (1 << 7, "two groups"),
+    (1 << 14, "three groups"),
+    (1 << 21, "four groups"),
+];
+
+#[derive(Default)]
+pub struct FeedTally {
+    ends: [usize; 5],
+    /// 12, by the number and then by its fault.
+    bad_numbers: [[usize; 3]; 3],
+    /// 13, by the number.
+    cut_numbers: [usize; 3],
+    at_the_end: Things<3>,
+    orders: Things<6>,
+    chunks: Things<7>,
+    /// Chunks that were read, by the groups of their lengths, and the accepted ones among them.
+    groups: [usize; 4],
+    accepted_groups: [usize; 4],
+}
+
+impl FeedTally {
+    pub fn add(&mut self, case: &FeedCase, compared: &FeedComparison) {
+        let (number, _) = compared.walk.number_and_place();
+        let end = ENDS.iter().position(|(end, _)| *end == number);
+        self.ends[end.expect("a walk has no other number")] += 1;
+        match compared.walk.end {
+            Err(Stop::BadNumber(number, fault, _)) => {
+                self.bad_numbers[number as usize][fault as usize] += 1;
+            }
+            Err(Stop::CutNumber(number, _)) => self.cut_numbers[number as usize] += 1,
+            _ => {}
+        }
+        for chunk in &compared.walk.chunks {
+            let group = GROUPS.partition_point(|(least, _)| *least <= chunk.length) - 1;
+            self.groups[group] += 1;
+            self.accepted_groups[group] += usize::from(chunk.number == 0);
+        }
+        self.at_the_end.add(at_the_end(case, compared));
+        self.orders.add(orders(case, compared));
+        self.chunks.add(chunks(case, compared));
+    }
+
+    pub fn end_counts(&self) -> Counts {
+        let end = |which: usize| {
+            let (number, meaning) = ENDS[which];
+            format!("walks that got {number}: {meaning}")
+        };
+        named(self.ends, end)
+    }
+
+    pub fn number_counts(&self) -> Counts {
+        let bad = |number: usize| {
+            let fault = move |fault: usize| {
+                let (number, fault) = (NUMBERS[number], FAULTS[fault]);
+                format!("12 at {number}: {fault}")
+            };
+            named(self.bad_numbers[number], fault)
+        };
+        let cut = named(self.cut_numbers, |number: usize| {
+            format!("13 at {}", NUMBERS[number])
+        });
+        [bad(0), bad(1), bad(2), cut, self.at_the_end.counts()].concat()
+    }
+
+    pub fn order_counts(&self) -> Counts {
+        self.orders.counts()
+    }
+
+    pub fn chunk_counts(&self) -> Counts {
+        self.chunks.counts()
+    }
+
+    /// Of long feeds: accepted chunks can have lengths of up to three groups.
+    pub fn group_counts(&self) -> Counts {
+        let chunks = named(self.groups, |group: usize| {
+            format!("chunks with a length of {}", GROUPS[group].1)
+        });
+        let accepted = named(self.accepted_groups, |group: usize| {
+            format!("accepted chunks with a length of {}", GROUPS[group].1)
+        });
+        [&chunks[..], &accepted[..3]].concat()
+    }
+}
+
+/// 12 and 13 at the feed's end.
+fn at_the_end(case: &FeedCase, compared: &FeedComparison) -> [Thing; 3] {
+    let length = case.feed.len();
+    let (last_four, cut_at) = match compared.walk.end {
+        Err(Stop::BadNumber(_, Fault::FourthGoesOn, place)) => (place + 4 == length, None),
+        Err(Stop::CutChunk(first)) => (false, Some(first)),
+        _ => (false, None),
+    };
+    let began = cut_at.is_some_and(|first| first < length);
+    [
+        ("12 by the feed's last four bytes", last_four),
+        ("13 inside a chunk that begins", began),
+        ("13 where a chunk should begin", cut_at == Some(length)),
+    ]
+}
+
+/// One number where another could be given too.
+fn orders(case: &FeedCase, compared: &FeedComparison) -> [Thing; 6] {
+    let (number, _) = compared.walk.number_and_place();
+    let (numbers, after) = leading_numbers(&case.feed);
+    let fits = buffers_fit(case, &numbers);
+    let first_not_allowed = matches!(numbers[..], [across] if !(1..=80).contains(&across));
+    let length_fails = numbers.len() == 2 && after < case.feed.len();
+    [
+        (
+            "12 or 13 at the second size number, the first not allowed",
+            first_not_allowed,
+        ),
+        (
+            "1 although both buffers would fit",
+            number == 1 && fits == [true, true],
+        ),
+        (
+            "1 although a buffer would not fit",
+            number == 1 && fits != [true, true],
+        ),
+        (
+            "1 or 2 although the first length is bad or cut",
+            matches!(number, 1 | 2) && length_fails,
+        ),
+        (
+            "2 by the picture alone",
+            number == 2 && fits == [false, true],
+        ),
+        ("2 by the map alone", number == 2 && fits == [true, false]),
+    ]
+}
+
+/// Which chunks the walk read, and whether they showed.
+fn chunks(case: &FeedCase, compared: &FeedComparison) -> [Thing; 7] {
+    let (number, _) = compared.walk.number_and_place();
+    let chunks = &compared.walk.chunks;
+    let rises = |two: &[ChunkRead]| two[0].unsettled < two[1].unsettled;
+    let Size { width, height } = case.board.size;
+    let other_size = match leading_numbers(&case.feed).0[..] {
+        [across, down, ..] => (4 * across, 4 * down) != (width, height),
+        _ => false,
+    };
+    [
+        (
+            "walks that got 0 without a chunk",
+            number == 0 && chunks.is_empty(),
+        ),
+        (
+            "walks that read a chunk of length 0",
+            chunks.iter().any(|chunk| chunk.length == 0),
+        ),
+        (
+            "walks in which the unsettled count rises",
+            chunks.windows(2).any(rises),
+        ),
+        (
+            "walks with a refused chunk between accepted ones",
+            refused_between(chunks),
+        ),
+        (
+            "walks that changed the board and got 12",
+            compared.changed && number == 12,
+        ),
+        (
+            "walks that changed the board and got 13",
+            compared.changed && number == 13,
+        ),
+        (
+            "walks that changed a board of another size",
+            compared.changed && other_size,
+        ),
+    ]
+}
+
+fn refused_between(chunks: &[ChunkRead]) -> bool {
+    let accepted = |chunk: &ChunkRead| chunk.number == 0;
+    let first = chunks.iter().position(accepted);
+    let last = chunks.iter().rposition(accepted);
+    match (first, last) {
+        (Some(first), Some(last)) => !chunks[first..last].iter().all(accepted),
+        _ => false,
+    }
+}
+
+/// The two size numbers and the first length, up to the first of them that is bad or cut, and the
+/// place after these.
+fn leading_numbers(feed: &[u8]) -> (Vec<usize>, usize) {
+    let mut numbers = Vec::new();
+    let mut at = 0;
+    for which in [Number::Width, Number::Height, Number::ChunkLength] {
+        let Ok((number, after)) = second_walk::number(feed, at, which) else {
+            break;
+        };
+        numbers.push(number);
+        at = after;
+    }
+    (numbers, at)
+}
+
+/// Whether picture and map have the lengths that the size numbers ask for.
+fn buffers_fit(case: &FeedCase, numbers: &[usize]) -> [bool; 2] {
+    let [across, down, ..] = *numbers else {
+        return [false; 2];
+    };
+    let blocks = across * down;
+    [
+        case.board.picture.len() == 16 * blocks,
+        case.board.map.len() == blocks,
+    ]
+}

@@ -1,0 +1,364 @@
+//! The feeds: size numbers and chunks, whole and damaged, with the buffers lent for the walk. It
+//! knows how a feed is laid out from paper 01 and shares nothing with the second walk, which
+//! alone says what is right.
+
+use crate::generate::{self, Board, FULL};
+use crate::library::Size;
+use crate::random::Random;
+
+/// The walk is lent the board's buffers; it is not told the board's size.
+pub struct FeedCase {
+    pub board: Board,
+    pub feed: Vec<u8>,
+}
+
+/// Feeds are numbered apart from the chunk cases and the boards, and listings apart from feeds.
+const FEEDS: u64 = 1 << 63;
+const LISTINGS: u64 = 1 << 62;
+
+/// The least numbers of two, three and four groups, and the greatest of all.
+const TWO_GROUPS: usize = 1 << 7;
+const THREE_GROUPS: usize = 1 << 14;
+const FOUR_GROUPS: usize = 1 << 21;
+const GREATEST: usize = 16_777_215;
+
+pub fn case(seed: u64, number: u64) -> FeedCase {
+    let random = &mut Random::for_case(seed ^ FEEDS, number);
+    let size = generate::allowed_size(random);
+    any_case(random, size)
+}
+
+/// A feed for the board program, which takes at most 32,768 bytes and 16,000 pixels.
+pub fn for_program(seed: u64, number: u64) -> Vec<u8> {
+    let random = &mut Random::for_case(seed ^ LISTINGS, number);
+    let size = if random.one_in(4) {
+        about_16_000_pixels(random)
+    } else {
+        generate::allowed_size(random)
+    };
+    let mut feed = any_case(random, size).feed;
+    if random.one_in(8) {
+        // In a feed that is whole so far each of these zeros is a chunk of length 0.
+        let length = random.pick(&[32_767, 32_768, 32_769, 32_770, 100_000]);
+        feed.resize(length, 0);
+    }
+    feed
+}
+
+fn about_16_000_pixels(random: &mut Random) -> Size {
+    let in_blocks = [(40, 25), (20, 50), (80, 12), (77, 13), (80, 13)];
+    let (across, down) = random.pick(&in_blocks);
+    Size {
+        width: 4 * across,
+        height: 4 * down,
+    }
+}
+
+/// Feeds too long to be made often: hundreds of chunks at the greatest size, and chunks at each
+/// length from which on its number takes another group, and at the greatest.
+pub fn long_cases(seed: u64) -> Vec<FeedCase> {
+    let random = &mut Random::for_case(seed ^ FEEDS, u64::MAX);
+    let hundreds = (0..400)
+        .map(|_| generate::any_chunk(random, FULL))
+        .collect();
+    let accepted_around = vec![
+        generate::plain_chunk(random),
+        padded_chunk(random, FULL, FOUR_GROUPS),
+        generate::valid_chunk(random, FULL),
+    ];
+    let block = Size {
+        width: 4,
+        height: 4,
+    };
+    let lengths = [TWO_GROUPS, THREE_GROUPS, FOUR_GROUPS]
+        .into_iter()
+        .flat_map(|least| [least - 1, least])
+        .chain([GREATEST]);
+    let each_length = lengths
+        .flat_map(|length| [settling(random), padded_chunk(random, block, length)])
+        .collect();
+    let mut cases = vec![
+        whole_case(random, FULL, hundreds),
+        whole_case(random, FULL, accepted_around),
+        whole_case(random, block, each_length),
+    ];
+    let mut cut = cases[2].feed.clone();
+    cut.pop();
+    cases.push(FeedCase {
+        board: generate::fitting_board(random, block),
+        feed: cut,
+    });
+    cases
+}
+
+fn whole_case(random: &mut Random, size: Size, chunks: Vec<Vec<u8>>) -> FeedCase {
+    FeedCase {
+        board: generate::fitting_board(random, size),
+        feed: Parts::new(in_blocks(size), chunks).0.concat(),
+    }
+}
+
+/// A valid chunk and random bytes after it, up to a length that the chunk states: refused.
+fn padded_chunk(random: &mut Random, size: Size, length: usize) -> Vec<u8> {
+    let mut chunk = generate::valid_chunk(random, size);
+    let more = length - chunk.len();
+    chunk.extend(random.bytes(more));
+    generate::state_length(&mut chunk);
+    chunk
+}
+
+/// One block of one colour.
+fn settling(random: &mut Random) -> Vec<u8> {
+    vec![0xE1, 0, 0, 6, 0x60, random.byte()]
+}
+
+fn in_blocks(size: Size) -> (usize, usize) {
+    (size.width / 4, size.height / 4)
+}
+
+/// Chunks for that size; the feed states it or another, and the buffers need not fit.
+fn any_case(random: &mut Random, size: Size) -> FeedCase {
+    let right = in_blocks(size);
+    let (stated, board) = match random.below(32) {
+        0..=3 => {
+            let stated = size_not_allowed(random, right);
+            (stated, board_as_if_allowed(random, stated, size))
+        }
+        4 | 5 => {
+            let stated = as_many_blocks(random, right);
+            (stated, generate::fitting_board(random, size))
+        }
+        6 => {
+            let stated = in_blocks(generate::allowed_size(random));
+            (stated, generate::fitting_board(random, size))
+        }
+        7 | 8 => (right, generate::board_of_wrong_lengths(random, size)),
+        _ => (right, generate::fitting_board(random, size)),
+    };
+    let parts = Parts::new(stated, any_chunks(random, size));
+    let feed = if random.one_in(40) {
+        noise(random)
+    } else {
+        any_feed(random, parts)
+    };
+    FeedCase { board, feed }
+}
+
+fn size_not_allowed(random: &mut Random, (across, down): (usize, usize)) -> (usize, usize) {
+    match random.below(3) {
+        0 => (wrong_extent(random, across, 80), down),
+        1 => (across, wrong_extent(random, down, 50)),
+        _ => (
+            wrong_extent(random, across, 80),
+            wrong_extent(random, down, 50),
+        ),
+    }
+}
+
+fn wrong_extent(random: &mut Random, right: usize, most: usize) -> usize {
+    match random.below(6) {
+        0 => 0,
+        1 | 2 => most + 1,
+        // Allowed, if only the lower bits of four times this were looked at.
+        3 => right + random.pick(&[1 << 8, 1 << 14, 1 << 22]),
+        4 => GREATEST - random.below(2),
+        _ => random.between(most + 1, 4 * most),
+    }
+}
+
+/// Buffers that would fit, where they are not too long, so that only the size is at fault.
+fn board_as_if_allowed(random: &mut Random, stated: (usize, usize), right: Size) -> Board {
+    let blocks = stated.0 * stated.1;
+    if blocks > 4_000 || random.one_in(4) {
+        return generate::fitting_board(random, right);
+    }
+    generate::lent_board(random, right, 16 * blocks, blocks)
+}
+
+/// Any allowed size whose buffers have the lengths of the given one's, such as 4x8 for 8x4.
+fn as_many_blocks(random: &mut Random, (across, down): (usize, usize)) -> (usize, usize) {
+    let blocks = across * down;
+    let sizes: Vec<_> = (1..=80)
+        .filter(|across| blocks.is_multiple_of(*across) && blocks / across <= 50)
+        .map(|across| (across, blocks / across))
+        .collect();
+    random.pick(&sizes)
+}
+
+fn any_chunks(random: &mut Random, size: Size) -> Vec<Vec<u8>> {
+    let small = size.width * size.height <= 1_024;
+    let chunks = if small && random.one_in(8) {
+        random.between(8, 40)
+    } else {
+        random.pick(&[0, 1, 1, 2, 3, 4, 6])
+    };
+    let kind = random.below(6);
+    let mut any = || match random.below(12) {
+        0 => Vec::new(),
+        _ if kind < 2 => generate::sparse_chunk(random, size),
+        _ if kind == 2 => generate::valid_chunk(random, size),
+        _ => generate::any_chunk(random, size),
+    };
+    (0..chunks).map(|_| any()).collect()
+}
+
+/// Short, and mostly with an allowed size in front.
+fn noise(random: &mut Random) -> Vec<u8> {
+    let length = random.between(0, 12);
+    let mut feed = random.bytes(length);
+    if random.one_in(4) {
+        return feed;
+    }
+    feed.iter_mut().take(2).for_each(|byte| *byte = 1);
+    feed
+}
+
+fn any_feed(random: &mut Random, mut parts: Parts) -> Vec<u8> {
+    match random.below(32) {
+        0..=6 => parts.spoil_number(random),
+        7..=11 => parts.cut_number(random),
+        12..=15 => parts.cut_chunk(random),
+        16 | 17 => parts.misstate_length(random),
+        _ => {}
+    }
+    let mut feed = parts.0.concat();
+    if feed.is_empty() {
+        return feed;
+    }
+    match random.below(24) {
+        0 => feed.truncate(random.below(feed.len())),
+        1 => generate::flip_bits(random, &mut feed),
+        2 => {
+            feed.remove(random.below(feed.len()));
+        }
+        3 => feed.insert(random.between(0, feed.len()), random.byte()),
+        _ => {}
+    }
+    feed
+}
+
+/// A feed's parts in order: the two size numbers, then each chunk's length and the chunk.
+struct Parts(Vec<Vec<u8>>);
+
+impl Parts {
+    fn new((across, down): (usize, usize), chunks: Vec<Vec<u8>>) -> Self {
+        let mut parts = vec![shortest(across), shortest(down)];
+        for chunk in chunks {
+            parts.push(shortest(chunk.len()));
+            parts.push(chunk);
+        }
+        Parts(parts)
+    }
+
+    /// Which part is the length of some chunk, if there is one.
+    fn some_length(&self, random: &mut Random) -> Option<usize> {
+        let chunks = (self.0.len() - 2) / 2;
+        (chunks > 0).then(|| 2 + 2 * random.below(chunks))
+    }
+
+    /// Which part is some number: as often a length as a size number.
+    fn some_number(&self, random: &mut Random) -> usize {
+        let size_number = random.below(2);
+        if random.one_in(2) {
+            return size_number;
+        }
+        self.some_length(random).unwrap_or(size_number)
+    }
+
+    fn spoil_number(&mut self, random: &mut Random) {
+        let which = self.some_number(random);
+        let right = self.value(which);
+        self.0[which] = badly_formed(random, right);
+        if random.one_in(3) {
+            self.0.truncate(which + 1);
+        }
+    }
+
+    fn value(&self, which: usize) -> usize {
+        let groups = self.0[which].iter().rev();
+        groups.fold(0, |value, group| value << 7 | usize::from(group & 0x7F))
+    }
+
+    /// The feed ends inside a number, or where a size number should begin.
+    fn cut_number(&mut self, random: &mut Random) {
+        let which = self.some_number(random);
+        let mut groups = in_groups(self.value(which), 4);
+        let least = if which < 2 { 0 } else { 1 };
+        groups.truncate(random.between(least, 3));
+        self.0[which] = groups;
+        self.0.truncate(which + 1);
+    }
+
+    /// The feed ends inside a chunk, often where its first byte should be.
+    fn cut_chunk(&mut self, random: &mut Random) {
+        let Some(length) = self.some_length(random) else {
+            return;
+        };
+        let chunk = &mut self.0[length + 1];
+        match random.below(3) {
+            0 => chunk.clear(),
+            1 => {
+                chunk.pop();
+            }
+            _ => chunk.truncate(random.between(0, chunk.len())),
+        }
+        self.0.truncate(length + 2);
+    }
+
+    fn misstate_length(&mut self, random: &mut Random) {
+        let Some(length) = self.some_length(random) else {
+            return;
+        };
+        let right = self.value(length);
+        let wrong = [
+            right + 1,
+            right + 2,
+            right.saturating_sub(1),
+            right / 2,
+            right + 1_000,
+            right + 65_536,
+            GREATEST,
+        ];
+        self.0[length] = shortest(random.pick(&wrong));
+    }
+}
+
+/// The only right form of a number.
+fn shortest(number: usize) -> Vec<u8> {
+    let groups = (1..5).find(|groups| number >> (7 * groups) == 0);
+    in_groups(number, groups.expect("at most four groups"))
+}
+
+/// As many groups as asked for; what does not fit is left out.
+fn in_groups(number: usize, groups: usize) -> Vec<u8> {
+    let mut bytes: Vec<u8> = (0..groups)
+        .map(|group| (number >> (7 * group)) as u8 | 0x80)
+        .collect();
+    bytes[groups - 1] &= 0x7F;
+    bytes
+}
+
+/// One of 01's three faults, mostly so that a reader without that rule takes the right number.
+fn badly_formed(random: &mut Random, right: usize) -> Vec<u8> {
+    let value = if random.one_in(4) {
+        random.below(GREATEST + 1)
+    } else {
+        right
+    };
+    match random.below(3) {
+        0 => {
+            let mut five = in_groups(value, 5);
+            // Without the fifth it is as bad, also at the feed's end.
+            five.truncate(random.between(4, 5));
+            five
+        }
+        1 => {
+            let groups = random.between(2, 4);
+            in_groups(value % (1 << (7 * (groups - 1))), groups)
+        }
+        _ => {
+            let fourth = random.pick(&[8, 8, 9, 16, 64, 127]);
+            in_groups(value % FOUR_GROUPS + fourth * FOUR_GROUPS, 4)
+        }
+    }
+}

@@ -1,0 +1,70 @@
+//! The board program beside 01: on cases written out by hand, and on random feeds beside the
+//! second listing.
+
+use crate::feeds;
+use crate::program::{self, Handed};
+use crate::program_cases;
+use crate::report::Differing;
+use crate::second_listing;
+use crate::tally::{Thing, Things};
+
+pub const FEEDS: u64 = 1_000;
+
+pub fn check_cases() -> Result<(), String> {
+    let mut differing = Differing::default();
+    let cases = program_cases::all();
+    for case in &cases {
+        let printed =
+            program::run(&case.feed, case.handed).map_err(|why| format!("{}: {why}", case.name))?;
+        let difference = program::difference(&printed, &case.prints);
+        differing.add(difference.as_slice(), || case.name.into());
+    }
+    differing.result(cases.len() as u64)
+}
+
+pub fn compare_random(seed: u64, things: &mut Things<9>) -> Result<(), String> {
+    let mut differing = Differing::default();
+    for number in 0..FEEDS {
+        let feed = feeds::for_program(seed, number);
+        let expected = second_listing::listing(&feed);
+        things.add(things_of(&feed, &expected));
+        let case = || format!("seed {seed}, listing {number}: {} bytes", feed.len());
+        let printed =
+            program::run(&feed, Handed::AtOnce).map_err(|why| format!("{}: {why}", case()))?;
+        let difference = program::difference(&printed, &expected);
+        differing.add(difference.as_slice(), case);
+    }
+    differing.result(FEEDS)
+}
+
+/// What a listing has, so that a run which missed something says so.
+fn things_of(feed: &[u8], listing: &str) -> [Thing; 9] {
+    let length = feed.len();
+    let too_large = listing == "too large\n";
+    let board = listing.starts_with("board");
+    let last = listing.lines().last().unwrap_or_default();
+    let ends = |numbers: &[&str]| numbers.iter().any(|number| last.starts_with(number));
+    [
+        ("too large by the bytes", too_large && length > 32_768),
+        ("too large by the pixels", too_large && length <= 32_768),
+        ("32,768 bytes listed", !too_large && length == 32_768),
+        ("the end line alone, with 1", !board && ends(&["end 1 "])),
+        (
+            "the end line alone, with 12 or 13",
+            !board && ends(&["end 12 ", "end 13 "]),
+        ),
+        ("a board ended by 0", board && ends(&["end 0 "])),
+        ("a board ended by 12", board && ends(&["end 12 "])),
+        ("a board ended by 13", board && ends(&["end 13 "])),
+        ("a count that rises", count_rises(listing)),
+    ]
+}
+
+fn count_rises(listing: &str) -> bool {
+    let unsettled = |line: &str| match line.split(' ').collect::<Vec<_>>()[..] {
+        [_, _, _, unsettled] => unsettled.parse::<usize>().ok(),
+        _ => None,
+    };
+    let counts: Vec<usize> = listing.lines().filter_map(unsettled).collect();
+    counts.windows(2).any(|two| two[0] < two[1])
+}

@@ -1,0 +1,98 @@
+//! One chunk, feed or listing of a run again, with all of it printed.
+
+use std::process::ExitCode;
+
+use crate::compare;
+use crate::feeds::{self, FeedCase};
+use crate::generate::{self, Board, Case};
+use crate::library::Size;
+use crate::program::{self, Handed};
+use crate::second_listing;
+
+#[derive(Clone, Copy)]
+pub enum Replay {
+    Case(u64),
+    Feed(u64),
+    Listing(u64),
+}
+
+impl Replay {
+    pub fn run(self, seed: u64) -> ExitCode {
+        let differences = match self {
+            Replay::Case(number) => chunk(seed, number),
+            Replay::Feed(number) => feed(seed, number),
+            Replay::Listing(number) => listing(seed, number),
+        };
+        for difference in &differences {
+            println!("{difference}");
+        }
+        if differences.is_empty() {
+            println!("no difference");
+            return ExitCode::SUCCESS;
+        }
+        ExitCode::FAILURE
+    }
+}
+
+fn chunk(seed: u64, number: u64) -> Vec<String> {
+    let case = generate::case(seed, number);
+    print_board(&format!("seed {seed}, case {number}"), &case.board);
+    println!("chunk {:02X?}", case.chunk);
+    let compared = compare::read_chunk(&case);
+    println!("second reader's {:?}", compared.answer);
+    compared.differences
+}
+
+fn feed(seed: u64, number: u64) -> Vec<String> {
+    let case = feeds::case(seed, number);
+    print_board(&format!("seed {seed}, feed {number}"), &case.board);
+    println!("feed {:02X?}", case.feed);
+    let compared = compare::walk_feed(&case);
+    for chunk in &compared.walk.chunks {
+        println!("second walk's {chunk:?}");
+    }
+    println!("second walk's end {:?}", compared.walk.end);
+    compared.differences
+}
+
+fn listing(seed: u64, number: u64) -> Vec<String> {
+    let feed = feeds::for_program(seed, number);
+    println!("seed {seed}, listing {number}");
+    println!("feed {feed:02X?}");
+    let expected = second_listing::listing(&feed);
+    print!("{expected}");
+    match program::run(&feed, Handed::AtOnce) {
+        Ok(printed) => Vec::from_iter(program::difference(&printed, &expected)),
+        Err(why) => vec![why],
+    }
+}
+
+fn print_board(name: &str, board: &Board) {
+    println!("{name}: {}", board_in_short(board));
+    println!("picture {:?}", board.picture);
+    println!("map {:?}", board.map);
+}
+
+/// Bytes of the longest chunk or feed that is shown whole in a report; a replay shows all.
+const SHORT: usize = 80;
+
+pub fn board_in_short(board: &Board) -> String {
+    let Size { width, height } = board.size;
+    let (pixels, entries) = (board.picture.len(), board.map.len());
+    format!("{width}x{height}, {pixels} pixels and {entries} map entries lent")
+}
+
+pub fn case_in_short(Case { board, chunk }: &Case) -> String {
+    format!("{}, chunk {}", board_in_short(board), bytes_in_short(chunk))
+}
+
+pub fn feed_in_short(FeedCase { board, feed }: &FeedCase) -> String {
+    format!("{}, feed {}", board_in_short(board), bytes_in_short(feed))
+}
+
+fn bytes_in_short(bytes: &[u8]) -> String {
+    if bytes.len() > SHORT {
+        return format!("of {} bytes", bytes.len());
+    }
+    format!("{bytes:02X?}")
+}
