@@ -49,9 +49,12 @@ module _ {s : List ℕ} {at more scale sum place : ℕ} (g : Grouping s at more 
   pub scale-small : scale ≤ 268435456
   scale-small = omega (arith, g .whole, mul-le-mul-left {m = 1} {n = worth more} scale (worth-some more))
 
-  -- a group's value times its worth
-  pub group-small : (b : ℕ) → b < 128 → b * scale ≤ 34091302912
-  group-small b h = omega (arith, scale-small, mul-le-mul-right {m = b} {n = 127} scale (omega arith))
+  -- no product and no sum leaves 64 bits
+  pub product-fits : (b : ℕ) → b < 128 → b * scale < 18446744073709551616
+  product-fits b h = omega (arith, scale-small, mul-le-mul-right {m = b} {n = 127} scale (omega arith))
+
+  pub sum-fits : (b : ℕ) → b < 128 → sum + b * scale < 18446744073709551616
+  sum-fits b h = omega (arith, g .sum-small, scale-small, mul-le-mul-right {m = b} {n = 127} scale (omega arith))
 
   pub grouping-cut : 0 < more → length s ≤ place → varintAt s at ≡ Bad feedCut
   unfolding if

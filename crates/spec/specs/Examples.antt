@@ -12,7 +12,7 @@ use Rattle.spec.specs.Pictures.{given, held}
 use Rattle.spec.specs.Maps.{settled, fresh, unsettled}
 use Rattle.spec.specs.Feeds.{reply}
 use Rattle.spec.specs.Calls.{reading, walking}
-use Rattle.spec.specs.Rows.{Row, octet, sequence, lastGiven, readLengths, writeLengths, maps, writes, encodes, varint, noVarint, prints, size, of, holds, hold}
+use Rattle.spec.specs.Rows.{Row, octet, sequence, lastGiven, readLengths, writeLengths, maps, writes, encodes, varint, noVarint, places, prints, size, of, holds, hold}
 
 -- a chunk read over a starting picture and a fresh map
 abbrev pub reads : ℕ → ℕ → List ℕ → List ℕ → ℕ → ℕ → List ℕ → List ℕ → Row
@@ -173,14 +173,17 @@ further =
     -- feed numbers that fail: each size number, before the size is looked at, and a chunk's length
     ∷ sequence 8 4 (of 32 9) (walking (0x80 ∷ 0x00 ∷ 0x01 ∷ []) ∷ walking (0x51 ∷ []) ∷ walking (0x02 ∷ 0x01 ∷ 0x80 ∷ 0x00 ∷ []) ∷ walking (0x02 ∷ 0x01 ∷ 0x80 ∷ []) ∷ [])
     (reply [] (answer 12 0) ∷ reply [] (answer 13 1) ∷ reply [] (answer 12 2) ∷ reply [] (answer 13 2) ∷ []) (of 32 9) (0 ∷ 1 ∷ []) 2
+    -- the places of the chunks of 01's listing: each one's number, its first byte, and after its last
+    ∷ places listingFeed 2 (2 ∷ 3 ∷ 9 ∷ 9 ∷ 10 ∷ 14 ∷ 14 ∷ 15 ∷ 21 ∷ [])
     -- the board program: no bytes; an empty chunk; a feed that ends where a chunk would start; a copy that unsettles, and numbers of two digits
     ∷ prints [] "end 13 0\n"
     ∷ prints (0x02 ∷ 0x01 ∷ 0x00 ∷ []) "board 8 4\n1 3 0 2\nend 0 3\n"
     ∷ prints (0x02 ∷ 0x01 ∷ 0x05 ∷ []) "board 8 4\nend 13 3\n"
     ∷ prints (0x03 ∷ 0x01 ∷ 0x07 ∷ chunk (0x00 ∷ 0x61 ∷ 0x05 ∷ []) ++ 0x07 ∷ chunk (0x00 ∷ 0x20 ∷ 0x00 ∷ []) ++ 0x05 ∷ chunk (0xF0 ∷ []))
     "board 12 4\n1 0 7 1\n2 0 7 2\n3 7 4 2\nend 0 24\n"
-    -- its limits: a size that gets 1; 16,000 pixels and 16,016; 32,768 bytes and 32,769, before a bad number is looked at
+    -- its limits: a size that gets 1; a size number that fails; 16,000 pixels and 16,016; 32,768 bytes and 32,769, before a bad number is looked at
     ∷ prints (0x51 ∷ 0x32 ∷ []) "end 1 0\n"
+    ∷ prints (0x02 ∷ 0x80 ∷ []) "end 13 1\n"
     ∷ prints (0x28 ∷ 0x19 ∷ []) "board 160 100\nend 0 2\n"
     ∷ prints (0x4D ∷ 0x0D ∷ []) "too large\n"
     ∷ prints (0x80 ∷ 0x00 ∷ of 32766 0) "end 12 0\n"

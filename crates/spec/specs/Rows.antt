@@ -23,7 +23,7 @@ use Rattle.spec.specs.Chunks as Chunks
 use Rattle.spec.specs.Boards.{Left, board, read, inTurn}
 use Rattle.spec.specs.Writing.{Wrote, opcodes, chunkFor, write}
 use Rattle.spec.specs.Writing as Writing
-use Rattle.spec.specs.Feeds.{varintAt, Reply}
+use Rattle.spec.specs.Feeds.{varintAt, Placed, chunksFrom, Reply}
 use Rattle.spec.specs.Feeds as Feeds
 use Rattle.spec.specs.Calls.{Call, call, run}
 use Rattle.spec.specs.Listing.{ascii, listing}
@@ -50,6 +50,8 @@ pub data Row : Type 0 where
   -- bytes that start with a number: its value and the place after it; or 12 or 13
   varint : List ℕ → ℕ → ℕ → Row
   noVarint : List ℕ → ℕ → Row
+  -- a feed and the place of its first chunk's number: the places of each chunk's number and first byte, and the place after it
+  places : List ℕ → ℕ → List ℕ → Row
   -- a feed: what the board program prints
   prints : List ℕ → String → Row
 
@@ -89,6 +91,10 @@ abbrev pub isBad : Varint → ℕ → Bool
 isBad (Bad e) x = eqb e x
 isBad (Value x q) e = false
 
+abbrev pub placesOf : List Placed → List ℕ
+placesOf [] = []
+placesOf (c ∷ cs) = c .numberAt ∷ c .first ∷ c .past ∷ placesOf cs
+
 unfoldable pub holds : Row → Bool
 unfolding if fuelled checked Sizes.side Sizes.fault Pictures.place Pictures.blockOf Pictures.pixelOf Pictures.shown Pictures.paint
     remap freshMap countMap Flags.digits Flags.upper24 Flags.lower24 Flags.flags Flags.octetBytes Flags.flagBytes
@@ -118,6 +124,7 @@ holds (writes w h old new s) =
 holds (encodes os s) = same (opcodes 0 os) s
 holds (varint s v p) = isVarint (varintAt s 0) v p
 holds (noVarint s e) = isBad (varintAt s 0) e
+holds (places s at ps) = same (placesOf (chunksFrom (length s) s at .list)) ps
 holds (prints s text) = same (listing s) (ascii text)
 
 abbrev pub hold : List Row → Bool

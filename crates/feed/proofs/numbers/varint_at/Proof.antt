@@ -1,8 +1,6 @@
-use Prim.Native.Nat.{_-_}
 use mathlib.Core.Path.{sym, _∙_}
-use lib.ListN.{getD}
 use native.Mathlib.Omega.{arith}
-use Rattle.feed.proofs.Grouping.{Grouping, grouping-none, scale-small, group-small, grouping-cut, grouping-last, grouping-more, grouping-end}
+use Rattle.feed.proofs.Grouping.{Grouping, grouping-none, scale-small, product-fits, sum-fits, grouping-cut, grouping-last, grouping-more, grouping-end}
 use borrow.Author.Needs.{needs}
 use Rattle.feed.proofs.numbers.varint_at.Statement.{statement}
 use Rattle.feed.proofs.numbers.varint_at.Tie as tie
@@ -29,16 +27,10 @@ add-place : tie.Need-add-place Inv-loop μ-loop
 add-place c = search needs
 
 mul-last-group : tie.Need-mul-last-group Inv-loop μ-loop
-mul-last-group c =
-    let g = c .before .before .before .before .loop .inv in
-    let group = getD (c .before .before .before .before .before .before .args .feed .now) (c .before .before .before .before .loop .place) 0 in
-    omega (arith, group-small g group (omega arith))
+mul-last-group c = record { fits = product-fits (c .before .before .before .before .loop .inv) _ (omega arith) }
 
 add-last-group : tie.Need-add-last-group Inv-loop μ-loop
-add-last-group c =
-    let g = c .before .before .before .before .loop .inv in
-    let group = getD (c .before .before .before .before .before .before .args .feed .now) (c .before .before .before .before .loop .place) 0 in
-    omega (arith, g .sum-small, scale-small g, group-small g group (omega arith))
+add-last-group c = record { fits = sum-fits (c .before .before .before .before .loop .inv) _ (omega arith) }
 
 last-group-requires : tie.Need-last-group-requires Inv-loop μ-loop
 last-group-requires c κs = search needs
@@ -47,18 +39,10 @@ returns-2 : tie.Need-returns-2 Inv-loop μ-loop
 returns-2 c = c .last-group .ensures ∙ sym (grouping-last (c .before .before .before .before .before .loop .inv) (omega arith) (omega arith) (omega arith))
 
 mul-sum : tie.Need-mul-sum Inv-loop μ-loop
-mul-sum c =
-    let g = c .before .before .before .before .loop .inv in
-    let group = getD (c .before .before .before .before .before .before .args .feed .now) (c .before .before .before .before .loop .place) 0 in
-    let byte = c .before .shared-slice-known2 .given (c .before .before .before .before .loop .place) in
-    omega (arith, group-small g (group - 128) (omega (arith, byte)))
+mul-sum c = record { fits = product-fits (c .before .before .before .before .loop .inv) _ (omega (arith, c .before .shared-slice-known2 .given (c .before .before .before .before .loop .place))) }
 
 add-sum : tie.Need-add-sum Inv-loop μ-loop
-add-sum c =
-    let g = c .before .before .before .before .loop .inv in
-    let group = getD (c .before .before .before .before .before .before .args .feed .now) (c .before .before .before .before .loop .place) 0 in
-    let byte = c .before .shared-slice-known2 .given (c .before .before .before .before .loop .place) in
-    omega (arith, g .sum-small, scale-small g, group-small g (group - 128) (omega (arith, byte)))
+add-sum c = record { fits = sum-fits (c .before .before .before .before .loop .inv) _ (omega (arith, c .before .shared-slice-known2 .given (c .before .before .before .before .loop .place))) }
 
 mul-scale : tie.Need-mul-scale Inv-loop μ-loop
 mul-scale c = omega (arith, scale-small (c .before .before .before .before .loop .inv))
