@@ -18,23 +18,19 @@ fn print(line: Line)
     io::write_all(STDOUT_FILENO, &text[start..]);
 }
 
-// A line for each chunk, and the end line.
+// A line for each chunk, and the end line: `lines-step` (spec/proofs/Listing) is this loop.
 fn print_chunks(size: Size, feed: &[u8], first: usize, picture: &mut [u8], map: &mut [u16]) {
     let mut at = first;
-    let mut chunk = 0;
+    let mut chunk = 1;
     loop {
-        match feed::step(size, feed, at, picture, map) {
-            Step::End(answer) => {
-                print(listing::end_line(answer));
-                return;
-            }
-            Step::Chunk(answer, past) => {
-                chunk += 1;
-                let count = board_map::count_unsettled(size, map);
-                print(listing::chunk_line(chunk, answer, count.unsettled));
-                at = past;
-            }
-        }
+        let listed = listing::list_step(size, feed, at, chunk, picture, map);
+        print(listed.line);
+        let step = listed.step;
+        let Step::Chunk(_, past) = step else {
+            return;
+        };
+        at = past;
+        chunk += 1;
     }
 }
 

@@ -1,8 +1,9 @@
-// The lines that the board program prints, as text.
+// The lines that the board program prints, as text, and one step of a listing.
 mod text;
 
 use spec::Answer;
 use spec::Size;
+use spec::Step;
 use text::put_byte;
 use text::put_decimal;
 use text::put_spaced;
@@ -10,7 +11,9 @@ use text::put_word;
 ghost use Prim.Native.Nat.{_≤_};
 ghost use mathlib.Core.Path.{_≡_};
 ghost use lib.ListN.{length, drop};
-ghost use Rattle.spec.specs.Listing.{boardLine, chunkLine, endLine, tooLargeLine};
+ghost use Rattle.spec.specs.Boards.{board};
+ghost use Rattle.spec.specs.Feeds.{walkStep};
+ghost use Rattle.spec.specs.Listing.{boardLine, chunkLine, endLine, tooLargeLine, stepLine};
 
 // A line is `text[start..]`: it is made from its end.
 pub struct Line {
@@ -71,4 +74,44 @@ pub fn too_large_line() -> Line
     let mut text = [0; Line::ROOM];
     let start = put_word(&mut text, Line::ROOM, b"too large\n");
     Line { text, start }
+}
+
+// The line of one step of the walk that has left this map.
+fn step_line(size: Size, chunk: usize, step: Step, map: &[u16]) -> Line
+    ensures { λ r. ⌜ drop (r .start) (r .text) ≡ stepLine size chunk step (now (map .entry)) ⌝ }
+    ensures { λ r. ⌜ r .start ≤ length (r .text) ⌝ }
+{
+    match step {
+        Step::End(answer) => end_line(answer),
+        Step::Chunk(answer, _) => {
+            let count = board_map::count_unsettled(size, map);
+            chunk_line(chunk, answer, count.unsettled)
+        }
+    }
+}
+
+// One step of a listing: its line, and the step of the walk.
+pub struct Listed {
+    pub line: Line,
+    pub step: Step,
+}
+
+// Reads the chunk, the one of this number, whose length number stands at a place, and makes its line; or makes the end line.
+pub fn list_step(
+    size: Size,
+    feed: &[u8],
+    at: usize,
+    chunk: usize,
+    picture: &mut [u8],
+    map: &mut [u16],
+) -> Listed
+    ensures { λ r. ⌜ r .step ≡ walkStep size (now (feed .entry)) at (board (now (picture .entry)) (now (map .entry))) .said ⌝ }
+    ensures { λ _. ⌜ now (picture .exit) ≡ walkStep size (now (feed .entry)) at (board (now (picture .entry)) (now (map .entry))) .board .picture ⌝ }
+    ensures { λ _. ⌜ now (map .exit) ≡ walkStep size (now (feed .entry)) at (board (now (picture .entry)) (now (map .entry))) .board .map ⌝ }
+    ensures { λ r. ⌜ drop (r .line .start) (r .line .text) ≡ stepLine size chunk (r .step) (now (map .exit)) ⌝ }
+    ensures { λ r. ⌜ r .line .start ≤ length (r .line .text) ⌝ }
+{
+    let step = feed::step(size, feed, at, picture, map);
+    let line = step_line(size, chunk, step, map);
+    Listed { line, step }
 }

@@ -2,7 +2,7 @@
 -- Assumes nothing.
 use Prim.Native.Nat.{ℕ, suc, _+_, _-_, _<_, _≤_}
 use mathlib.Core.Path.{_≡_, refl, subst, subst⁻¹}
-use mathlib.Core.List.{List, [], _∷_, _++_}
+use mathlib.Core.List.{List, [], _∷_}
 use mathlib.Core.Bool.{Bool, true, false}
 use native.Mathlib.Omega.{arith}
 use lib.ListN.{length}
@@ -17,10 +17,8 @@ use Rattle.spec.specs.declared.Step.{Step}
 use Rattle.spec.specs.declared.Step.the-variants as Step
 use Rattle.spec.specs.Basics.{if}
 use Rattle.spec.specs.Answers.{ok, answer}
-use Rattle.spec.specs.Maps.{unsettled}
 use Rattle.spec.specs.Boards.{Board, Left, left, inTurn}
 use Rattle.spec.specs.Feeds.{chunkAt, nextAt, Chunks, andOnward, chunksFrom, Reply, reply, readAll, stepBy, walkStep}
-use Rattle.spec.specs.Listing.{chunkLine, chunkLines}
 use Rattle.spec.proofs.Fuel.{by-fuel, fuel-end, fuel-enough, fuel-turn}
 use Rattle.spec.proofs.Lists.{by-test}
 use Rattle.spec.proofs.Varints.{Cut, short, Read, refused, got, read-varint}
@@ -125,11 +123,9 @@ pub record Onward (z : Size) (s : List ℕ) (fuel at : ℕ) (cs : Chunks) (b : B
   pub further : at < past
   pub within : past ≤ length s
   pub walked : readAll z cs b ≡ saidFirst a (readAll z (chunksFrom fuel s past) after)
-  pub listed : (i : ℕ) → chunkLines z i (cs .list) b ≡ chunkLine i a (unsettled (after .map)) ++ chunkLines z (i + 1) (chunksFrom fuel s past .list) after
 
 pub record Over (z : Size) (cs : Chunks) (b : Board) (a : Answer) (after : Board) : Type 0 where
   pub walked : readAll z cs b ≡ left (reply [] a) after
-  pub listed : (i : ℕ) → chunkLines z i (cs .list) b ≡ []
   pub same : after ≡ b
 
 module _ (z : Size) (s : List ℕ) (fuel : ℕ) where
@@ -139,9 +135,9 @@ module _ (z : Size) (s : List ℕ) (fuel : ℕ) where
 
   stepped-by : (at : ℕ) (b : Board) {x : Next} → Stands s at x
       → Stepped at (andOnward (λ p. chunksFrom fuel s p) s at x) b (stepBy z s x b .said) (stepBy z s x b .board)
-  unfolding inTurn chunkLines
-  stepped-by at b (over e) = record { walked = refl; listed = λ i. refl; same = refl }
-  stepped-by at b (chunk l) = record { further = omega arith; within = l .within; walked = refl; listed = λ i. refl }
+  unfolding inTurn
+  stepped-by at b (over e) = record { walked = refl; same = refl }
+  stepped-by at b (chunk l) = record { further = omega arith; within = l .within; walked = refl }
 
   pub stepped : length s ≤ fuel → (at : ℕ) (b : Board) → Stepped at (chunksFrom fuel s at) b (walkStep z s at b .said) (walkStep z s at b .board)
   unfolding walkStep

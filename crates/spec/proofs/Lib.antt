@@ -18,4 +18,5 @@ pub mod Cells
 pub mod Varints
 pub mod Loops
 pub mod Feeds
+pub mod Listing
 pub mod Boards

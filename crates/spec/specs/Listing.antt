@@ -9,12 +9,14 @@ use Rattle.spec.specs.declared.Answer.{Answer}
 use Rattle.spec.specs.declared.Size.{Size}
 use Rattle.spec.specs.declared.SizeNumbers.{SizeNumbers}
 use Rattle.spec.specs.declared.SizeNumbers.the-variants.{Broken, Sized}
+use Rattle.spec.specs.declared.Step.{Step}
+use Rattle.spec.specs.declared.Step.the-variants as Step
 use Rattle.spec.specs.declared.Decision.{Decision}
 use Rattle.spec.specs.declared.Decision.the-variants as Decision
 use Rattle.spec.specs.Basics.{if, from}
 use Rattle.spec.specs.Answers.{badSize, answer}
 use Rattle.spec.specs.Sizes.{allowed, pixels, blocks}
-use Rattle.spec.specs.Maps.{fresh, unsettled}
+use Rattle.spec.specs.Maps.{fresh, countMap}
 use Rattle.spec.specs.Boards.{Board, board, read}
 use Rattle.spec.specs.Feeds.{Placed, chunksFrom, sizeNumbers}
 
@@ -69,12 +71,20 @@ tooLargeLine = ascii "too large\n"
 abbrev pub chunkLine : ℕ → Answer → ℕ → List ℕ
 chunkLine i a n = decimal i (spaced (a .number ∷ a .place ∷ n ∷ []))
 
--- the lines of the chunks, each read over what the one before it left; i is the first one's number
+-- the line of one step of the walk, which has left a map: of the chunk that it has read, with the count as it now stands, or the end line
+unfoldable pub stepLine : Size → ℕ → Step → List ℕ → List ℕ
+stepLine z i (Step.End a) m = endLine a
+stepLine z i (Step.Chunk a past) m = chunkLine i a (countMap z m .unsettled)
+
+-- the lines of chunks, each read over what the one before it left, and the end line; i is the first one's number
 unfoldable pub chunkLines : Size → ℕ → List Placed → Board → List ℕ
 chunkLines z i [] b = []
 chunkLines z i (c ∷ cs) b =
     let l = read z (c .bytes) b in
-    chunkLine i (l .said) (unsettled (l .board .map)) ++ chunkLines z (i + 1) cs (l .board)
+    chunkLine i (l .said) (countMap z (l .board .map) .unsettled) ++ chunkLines z (i + 1) cs (l .board)
+
+abbrev pub linesFrom : Size → List ℕ → ℕ → ℕ → Board → List ℕ
+linesFrom z s i at b = let cs = chunksFrom (length s) s at in chunkLines z i (cs .list) b ++ endLine (cs .ending)
 
 -- "from an all-zero picture and a fresh map"
 abbrev pub startingBoard : Size → Board
@@ -83,9 +93,7 @@ startingBoard z = board (replicate (pixels z) 0) (fresh (blocks z))
 abbrev pub listingBy : List ℕ → Decision → List ℕ
 listingBy s Decision.TooLarge = tooLargeLine
 listingBy s (Decision.EndLine a) = endLine a
-listingBy s (Decision.Board z first) =
-    let cs = chunksFrom (length s) s first in
-    boardLine z ++ chunkLines z 1 (cs .list) (startingBoard z) ++ endLine (cs .ending)
+listingBy s (Decision.Board z first) = boardLine z ++ linesFrom z s 1 first (startingBoard z)
 
 unfoldable pub listing : List ℕ → List ℕ
 listing s = listingBy s (decide s)

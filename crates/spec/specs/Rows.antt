@@ -102,7 +102,7 @@ unfolding if fuelled checked Sizes.side Sizes.fault Pictures.place Pictures.bloc
     read inTurn Writing.insert Writing.colours Writing.entries Writing.entryOf Writing.tabled Writing.single Writing.counting Writing.plain
     Writing.opcodeFor Writing.alike Writing.opcodes Writing.encode Writing.difference Writing.differences Writing.emit Writing.write
     Feeds.groups Feeds.varintAt Feeds.nextAt Feeds.chunksFrom Feeds.sizeNumbers Feeds.feedOf Feeds.walk call
-    Listing.decide Listing.higherDigits Listing.decimal Listing.chunkLines Listing.listing
+    Listing.decide Listing.higherDigits Listing.decimal Listing.stepLine Listing.chunkLines Listing.listing
 holds (octet bs x y) = eqb (upper24 bs) x && eqb (lower24 bs) y
 holds (sequence w h start calls replies pic m n) =
     isLeft (run (size w h) calls (board start (fresh (blocks (size w h))))) replies pic m n

@@ -1,4 +1,4 @@
-use Prim.Native.Nat.{_-_, _≤_}
+use Prim.Native.Nat.{_+_, _-_, _≤_}
 use mathlib.Core.Path.{_≡_, refl, _∙_}
 use native.Mathlib.Omega.{arith}
 use borrow.Author.Needs.{needs}
@@ -8,7 +8,8 @@ use Rattle.board.proofs.print_chunks.Statement.{statement}
 use Rattle.board.proofs.print_chunks.Tie as tie
 
 abbrev Inv-loop : tie.InvT-loop
-Inv-loop size feed first picture₀ map₀ at₀ chunk₀ picture map at chunk = (length picture ≡ length picture₀) × (length map ≡ length map₀) × (chunk ≤ at)
+Inv-loop size feed first picture₀ map₀ at₀ chunk₀ picture map at chunk =
+    (length picture ≡ length picture₀) × (length map ≡ length map₀) × (chunk ≤ at + 1)
 
 abbrev μ-loop : tie.MeasureT-loop
 μ-loop size feed first picture₀ map₀ at₀ chunk₀ picture map at chunk = length feed - at
@@ -16,49 +17,37 @@ abbrev μ-loop : tie.MeasureT-loop
 loop-holds : tie.Need-loop-holds Inv-loop μ-loop
 loop-holds c = (refl, refl, omega arith)
 
-step-requires : tie.Need-step-requires Inv-loop μ-loop
-step-requires c κs = tt
-
-enum-known-answer : tie.Need-enum-known-answer Inv-loop μ-loop
-enum-known-answer c = search needs
-
-end-line-requires : tie.Need-end-line-requires Inv-loop μ-loop
-end-line-requires c κs = tt
+list-step-requires : tie.Need-list-step-requires Inv-loop μ-loop
+list-step-requires c κs = tt
 
 print-requires : tie.Need-print-requires Inv-loop μ-loop
-print-requires c κs = c .end-line .ensures .1
+print-requires c κs = c .before .before .before .before .list-step .ensures .1 .1 .1 .1
+
+enum-known-step : tie.Need-enum-known-step Inv-loop μ-loop
+enum-known-step c = search needs
+
+enum-told : tie.Need-enum-told Inv-loop μ-loop
+enum-told c = search needs
 
 same-length : tie.Need-same-length Inv-loop μ-loop
-same-length c = c .before .before .before .before .before .before .before .before .picture .given ∙ c .before .before .before .before .before .before .before .before .before .before .before .before .loop .inv .0
+same-length c = c .before .before .before .before .before .before .picture .given ∙ c .before .before .before .before .before .before .before .before .before .before .loop .inv .0
 
 same-length-2 : tie.Need-same-length-2 Inv-loop μ-loop
-same-length-2 c = c .before .before .before .before .before .before .map .given ∙ c .before .before .before .before .before .before .before .before .before .before .before .before .loop .inv .1
+same-length-2 c = c .before .before .before .before .map .given ∙ c .before .before .before .before .before .before .before .before .before .before .loop .inv .1
 
 returns : tie.Need-returns Inv-loop μ-loop
 returns c = tt
 
-enum-known-answer-2 : tie.Need-enum-known-answer-2 Inv-loop μ-loop
-enum-known-answer-2 c = search needs
-
 add-chunk : tie.Need-add-chunk Inv-loop μ-loop
-add-chunk c = let o = step-onward (walking-none _ _ _ _) (c .before .before .before .before .before .before .before .step .ensures .0) (c .before .answer2 .given .1) in omega (arith, o .further, o .within, c .before .before .before .before .before .before .before .before .before .before .loop .inv .2)
-
-count-unsettled-requires : tie.Need-count-unsettled-requires Inv-loop μ-loop
-count-unsettled-requires c κs = tt
-
-chunk-line-requires : tie.Need-chunk-line-requires Inv-loop μ-loop
-chunk-line-requires c κs = tt
-
-print-requires-2 : tie.Need-print-requires-2 Inv-loop μ-loop
-print-requires-2 c κs = c .chunk-line .ensures .1
+add-chunk c = let o = step-onward (walking-none _ _ _ _) (c .before .before .before .before .before .before .before .before .list-step .ensures .0) (c .before .step .given .1) in omega (arith, o .further, o .within, c .before .before .before .before .before .before .before .before .before .before .before .loop .inv .2)
 
 loop-less : tie.Need-loop-less Inv-loop μ-loop
-loop-less c = let o = step-onward (walking-none _ _ _ _) (c .before .before .before .before .before .before .before .before .before .before .before .step .ensures .0) (c .before .before .before .before .before .answer2 .given .1) in omega (arith, o .further, o .within)
+loop-less c = let o = step-onward (walking-none _ _ _ _) (c .before .before .before .before .before .before .before .before .list-step .ensures .0) (c .before .step .given .1) in omega (arith, o .further, o .within)
 
 loop-again : tie.Need-loop-again Inv-loop μ-loop
 loop-again c =
-    let o = step-onward (walking-none _ _ _ _) (c .before .before .before .before .before .before .before .before .before .before .before .step .ensures .0) (c .before .before .before .before .before .answer2 .given .1) in
-    (c .before .before .before .before .before .before .before .before .before .before .picture .given ∙ c .before .before .before .before .before .before .before .before .before .before .before .before .before .before .loop .inv .0, c .before .before .before .before .before .before .before .before .map .given ∙ c .before .before .before .before .before .before .before .before .before .before .before .before .before .before .loop .inv .1, omega (arith, o .further, c .before .before .before .before .before .before .before .before .before .before .before .before .before .before .loop .inv .2))
+    let o = step-onward (walking-none _ _ _ _) (c .before .before .before .before .before .before .before .before .list-step .ensures .0) (c .before .step .given .1) in
+    (c .before .before .before .before .before .before .before .picture .given ∙ c .before .before .before .before .before .before .before .before .before .before .before .loop .inv .0, c .before .before .before .before .before .map .given ∙ c .before .before .before .before .before .before .before .before .before .before .before .loop .inv .1, omega (arith, o .further, c .before .before .before .before .before .before .before .before .before .before .before .loop .inv .2))
 
 pub print-chunks-spec : {M : Type 1} → statement M
 print-chunks-spec =
@@ -67,17 +56,13 @@ print-chunks-spec =
     Inv-loop
     μ-loop
     loop-holds
-    step-requires
-    enum-known-answer
-    end-line-requires
+    list-step-requires
     print-requires
+    enum-known-step
+    enum-told
     same-length
     same-length-2
     returns
-    enum-known-answer-2
     add-chunk
-    count-unsettled-requires
-    chunk-line-requires
-    print-requires-2
     loop-less
     loop-again)
