@@ -23,7 +23,7 @@ worth-some (suc more) = let some = worth-some more in omega arith
 
 -- the number at `at` is that of the groups from `place` on, so many of them, with `sum` from those before
 pub record Grouping (s : List ℕ) (at more scale sum place : ℕ) : Type 0 where
-  pub whole : scale * worth more ≡ 268435456
+  pub whole : scale * worth more ≡ worth 4
   pub sum-small : sum ≤ scale
   pub same : varintAt s at ≡ groups more scale sum s place
 
@@ -46,7 +46,7 @@ less-worth zero scale h = absurd (omega arith)
 less-worth (suc more) scale h = let e : suc more - 1 ≡ more = omega arith in rw e (mul-assoc scale 128 (worth more))
 
 module _ {s : List ℕ} {at more scale sum place : ℕ} (g : Grouping s at more scale sum place) where
-  pub scale-small : scale ≤ 268435456
+  pub scale-small : scale ≤ worth 4
   scale-small = omega (arith, g .whole, mul-le-mul-left {m = 1} {n = worth more} scale (worth-some more))
 
   -- no product and no sum leaves 64 bits

@@ -8,9 +8,6 @@ ghost use mathlib.Core.Bool.{_&&_};
 ghost use lib.Dec.{ltb, eqb};
 ghost use Rattle.spec.specs.Feeds.{lastGroup, varintAt, sizeNumbers};
 
-// The greatest number that a feed may hold.
-const MAX_NUMBER: usize = 16777215;
-
 // The number that starts at a place: one to four groups of seven bits, the lowest first.
 pub fn varint_at(feed: &[u8], at: usize) -> Varint
     ensures { λ r. ⌜ r ≡ varintAt (now (feed .entry)) at ⌝ }
@@ -49,7 +46,7 @@ fn last_group(scale: usize, group: usize, value: usize, after: usize) -> Varint
     if is_padding(scale, group) {
         return Varint::Bad(Answer::BAD_VARINT);
     }
-    if value > MAX_NUMBER {
+    if value > Varint::MAX {
         return Varint::Bad(Answer::BAD_VARINT);
     }
     Varint::Value(value, after)

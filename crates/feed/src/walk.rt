@@ -50,8 +50,8 @@ pub fn step(size: Size, feed: &[u8], at: usize, picture: &mut [u8], map: &mut [u
     }
 }
 
-// The chunks from a place on, each over what the one before it left. It needs no size numbers, and tests nothing that reading a chunk
-// does not test.
+// The chunks from a place on, each over what the one before it left. It needs no size numbers; size and lengths are tested by each chunk's
+// reading.
 pub fn walk_chunks(
     size: Size,
     feed: &[u8],

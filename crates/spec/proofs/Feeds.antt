@@ -11,6 +11,7 @@ use borrow.Author.Tests.{ltb-true, ltb-false, le-ltb}
 use Rattle.spec.specs.declared.Answer.{Answer}
 use Rattle.spec.specs.declared.Size.{Size}
 use Rattle.spec.specs.declared.Varint.{Varint}
+use Rattle.spec.specs.declared.Varint.the-variants.{Bad, Value}
 use Rattle.spec.specs.declared.Next.{Next}
 use Rattle.spec.specs.declared.Next.the-variants as Next
 use Rattle.spec.specs.declared.Step.{Step}
@@ -18,10 +19,10 @@ use Rattle.spec.specs.declared.Step.the-variants as Step
 use Rattle.spec.specs.Basics.{if}
 use Rattle.spec.specs.Answers.{ok, answer}
 use Rattle.spec.specs.Boards.{Board, Left, left, inTurn}
-use Rattle.spec.specs.Feeds.{chunkAt, nextAt, Chunks, andOnward, chunksFrom, Reply, reply, readAll, stepBy, walkStep}
+use Rattle.spec.specs.Feeds.{varintAt, chunkAt, nextAt, Chunks, andOnward, chunksFrom, Reply, reply, readAll, stepBy, walkStep}
 use Rattle.spec.proofs.Fuel.{by-fuel, fuel-end, fuel-enough, fuel-turn}
 use Rattle.spec.proofs.Lists.{by-test}
-use Rattle.spec.proofs.Varints.{Cut, short, Read, refused, got, read-varint}
+use Rattle.spec.proofs.Varints.{Cut, short, Read, read-varint}
 
 -- a walk ends with 0, 12 or 13
 pub data Ends : ℕ → Type 0 where
@@ -34,38 +35,30 @@ pub record Lies (s : List ℕ) (at first past : ℕ) : Type 0 where
   pub up : first ≤ past
   pub within : past ≤ length s
 
--- what stands at a place
-pub data Stands (s : List ℕ) (at : ℕ) : Next → Type 0 where
-  over : {a : Answer} → Ends (a .number) → Stands s at (Next.End a)
-  chunk : {first past : ℕ} → Lies s at first past → Stands s at (Next.Chunk first past)
+-- what is known of what stands at a place
+abbrev pub Stands : List ℕ → ℕ → Next → Type 0
+Stands s at (Next.End a) = Ends (a .number)
+Stands s at (Next.Chunk first past) = Lies s at first past
 
-stands-chunk : (s : List ℕ) (at : ℕ) {x : Varint} → Read s at x → Stands s at (chunkAt s at x)
-stands-chunk s at (refused c) = over (cut c)
-stands-chunk s at (got {v} {after} g) =
-    by-test (Stands s at) (ltb (length s) (after + v)) (λ t. over (cut short)) (λ t.
+stands-chunk : (s : List ℕ) (at : ℕ) (x : Varint) → Read s at x → Stands s at (chunkAt s at x)
+stands-chunk s at (Bad e) c = cut c
+stands-chunk s at (Value v after) g =
+    by-test (Stands s at) (ltb (length s) (after + v)) (λ t. cut short) (λ t.
     let fits = ltb-false (length s) (after + v) t in
-    chunk (record { behind = g .further; up = omega arith; within = omega arith }))
+    record { behind = g .further; up = omega arith; within = omega arith })
 
 pub stands : (s : List ℕ) (at : ℕ) → Stands s at (nextAt s at)
 unfolding nextAt
-stands s at = by-test (Stands s at) (ltb at (length s)) (λ t. stands-chunk s at (read-varint s at)) (λ t. over whole)
+stands s at = by-test (Stands s at) (ltb at (length s)) (λ t. stands-chunk s at (varintAt s at) (read-varint s at)) (λ t. whole)
 
 -- of a chunk that code was given
-abbrev LiesBy : List ℕ → ℕ → Next → Type 0
-LiesBy s at (Next.End a) = Unit {0}
-LiesBy s at (Next.Chunk first past) = Lies s at first past
-
-lies-by : {s : List ℕ} {at : ℕ} {x : Next} → Stands s at x → LiesBy s at x
-lies-by (over e) = tt
-lies-by (chunk l) = l
-
 pub chunk-lies : (s : List ℕ) (at : ℕ) {first past : ℕ} → nextAt s at ≡ Next.Chunk first past → Lies s at first past
-chunk-lies s at e = subst (LiesBy s at) e (lies-by (stands s at))
+chunk-lies s at e = subst (Stands s at) e (stands s at)
 
-same-onward : (f g : ℕ → Chunks) (s : List ℕ) (at : ℕ) {x : Next} → ((p : ℕ) → at < p → f p ≡ g p) → Stands s at x
+same-onward : (f g : ℕ → Chunks) (s : List ℕ) (at : ℕ) (x : Next) → ((p : ℕ) → at < p → f p ≡ g p) → Stands s at x
     → andOnward f s at x ≡ andOnward g s at x
-same-onward f g s at h (over e) = refl
-same-onward f g s at h (chunk {past} l) = rw (h past (omega arith))
+same-onward f g s at (Next.End a) h e = refl
+same-onward f g s at (Next.Chunk first past) h l = rw (h past (omega arith))
 
 module _ (s : List ℕ) where
   feedLeft : ℕ → ℕ
@@ -80,7 +73,7 @@ module _ (s : List ℕ) where
   unfolding feedLeft
   feed-less f g at t h =
       let l = ltb-true at (length s) t in
-      same-onward f g s at (λ p o. h p (omega arith)) (stands s at)
+      same-onward f g s at (nextAt s at) (λ p o. h p (omega arith)) (stands s at)
 
   pub chunks-enough : (fuel at : ℕ) → length s ≤ at + fuel → chunksFrom (suc fuel) s at ≡ chunksFrom fuel s at
   unfolding chunksFrom feedLeft
@@ -103,16 +96,16 @@ module _ (s : List ℕ) where
         by true e = unroll-turn at e
         by false e = unroll-end at e
 
-ends-onward : (onward : ℕ → Chunks) (s : List ℕ) (at : ℕ) {x : Next} → ((p : ℕ) → Ends (onward p .ending .number)) → Stands s at x
+ends-onward : (onward : ℕ → Chunks) (s : List ℕ) (at : ℕ) (x : Next) → ((p : ℕ) → Ends (onward p .ending .number)) → Stands s at x
     → Ends (andOnward onward s at x .ending .number)
-ends-onward onward s at h (over e) = e
-ends-onward onward s at h (chunk {past} l) = h past
+ends-onward onward s at (Next.End a) h e = e
+ends-onward onward s at (Next.Chunk first past) h l = h past
 
 pub ends-chunks : (fuel : ℕ) (s : List ℕ) (at : ℕ) → Ends (chunksFrom fuel s at .ending .number)
 unfolding chunksFrom
 ends-chunks fuel s at =
     by-fuel _ _ _ (λ (at : ℕ). Unit {0}) (λ (cs : Chunks). Ends (cs .ending .number))
-    (λ onward at u h. ends-onward onward s at (λ p. h p tt) (stands s at)) (λ at u. whole) fuel at tt
+    (λ onward at u h. ends-onward onward s at (nextAt s at) (λ p. h p tt) (stands s at)) (λ at u. whole) fuel at tt
 
 -- a walk whose first chunk says a
 abbrev pub saidFirst : Answer → Left Reply → Left Reply
@@ -126,21 +119,20 @@ pub record Onward (z : Size) (s : List ℕ) (fuel at : ℕ) (cs : Chunks) (b : B
 
 pub record Over (z : Size) (cs : Chunks) (b : Board) (a : Answer) (after : Board) : Type 0 where
   pub walked : readAll z cs b ≡ left (reply [] a) after
-  pub same : after ≡ b
 
 module _ (z : Size) (s : List ℕ) (fuel : ℕ) where
   abbrev pub Stepped : ℕ → Chunks → Board → Step → Board → Type 0
   Stepped at cs b (Step.End a) after = Over z cs b a after
   Stepped at cs b (Step.Chunk a past) after = Onward z s fuel at cs b a past after
 
-  stepped-by : (at : ℕ) (b : Board) {x : Next} → Stands s at x
+  stepped-by : (at : ℕ) (b : Board) (x : Next) → Stands s at x
       → Stepped at (andOnward (λ p. chunksFrom fuel s p) s at x) b (stepBy z s x b .said) (stepBy z s x b .board)
   unfolding inTurn
-  stepped-by at b (over e) = record { walked = refl; same = refl }
-  stepped-by at b (chunk l) = record { further = omega arith; within = l .within; walked = refl }
+  stepped-by at b (Next.End a) e = record { walked = refl }
+  stepped-by at b (Next.Chunk first past) l = record { further = omega arith; within = l .within; walked = refl }
 
   pub stepped : length s ≤ fuel → (at : ℕ) (b : Board) → Stepped at (chunksFrom fuel s at) b (walkStep z s at b .said) (walkStep z s at b .board)
   unfolding walkStep
   stepped h at b =
       subst⁻¹ (λ (cs : Chunks). Stepped at cs b (stepBy z s (nextAt s at) b .said) (stepBy z s (nextAt s at) b .board)) (unroll-chunks s fuel h at)
-      (stepped-by at b (stands s at))
+      (stepped-by at b (nextAt s at) (stands s at))

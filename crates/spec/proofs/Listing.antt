@@ -1,5 +1,5 @@
 -- The listing, step by step: what a step of the walk prints, and then the lines from where it has left off. Assumes nothing.
-use Prim.Native.Nat.{ℕ, _+_, _-_}
+use Prim.Native.Nat.{ℕ, _+_}
 use mathlib.Core.Path.{_≡_, sym, ap, _∙_}
 use mathlib.Core.List.{List, [], _++_, append-assoc, append-nil}
 use native.Mathlib.Nat.{le-refl}
@@ -9,11 +9,9 @@ use Rattle.spec.specs.declared.Next.{Next}
 use Rattle.spec.specs.declared.Next.the-variants as Next
 use Rattle.spec.specs.declared.Step.{Step}
 use Rattle.spec.specs.declared.Step.the-variants as Step
-use Rattle.spec.specs.Basics.{part}
-use Rattle.spec.specs.Maps.{countMap}
 use Rattle.spec.specs.Boards.{Board, read}
-use Rattle.spec.specs.Feeds.{nextAt, Chunks, andOnward, chunksFrom, stepBy, walkStep}
-use Rattle.spec.specs.Listing.{chunkLine, endLine, stepLine, chunkLines, linesFrom}
+use Rattle.spec.specs.Feeds.{between, nextAt, Chunks, andOnward, chunksFrom, stepBy, walkStep}
+use Rattle.spec.specs.Listing.{endLine, stepLine, chunkLines, linesFrom}
 use Rattle.spec.proofs.Feeds.{unroll-chunks}
 
 -- the lines after a step that has left a board
@@ -28,9 +26,9 @@ lines-by : (z : Size) (s : List ℕ) (i at : ℕ) (b : Board) (x : Next)
 unfolding chunkLines stepLine
 lines-by z s i at b (Next.End a) = sym (append-nil (endLine a))
 lines-by z s i at b (Next.Chunk first past) =
-    let l = read z (part s first (past - first)) b in
+    let l = read z (between s first past) b in
     let rest = chunksFrom (length s) s past in
-    append-assoc (chunkLine i (l .said) (countMap z (l .board .map) .unsettled)) (chunkLines z (i + 1) (rest .list) (l .board)) (endLine (rest .ending))
+    append-assoc (stepLine z i (Step.Chunk (l .said) past) (l .board .map)) (chunkLines z (i + 1) (rest .list) (l .board)) (endLine (rest .ending))
 
 pub lines-step : (z : Size) (s : List ℕ) (i at : ℕ) (b : Board)
     → let l = walkStep z s at b in

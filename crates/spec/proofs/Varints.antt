@@ -21,33 +21,26 @@ pub record Got (s : List ℕ) (at v after : ℕ) : Type 0 where
   pub within : after ≤ length s
   pub small : v ≤ maxNumber
 
-pub data Read (s : List ℕ) (at : ℕ) : Varint → Type 0 where
-  refused : {e : ℕ} → Cut e → Read s at (Bad e)
-  got : {v after : ℕ} → Got s at v after → Read s at (Value v after)
+-- what is known of a number that is read
+abbrev pub Read : List ℕ → ℕ → Varint → Type 0
+Read s at (Bad e) = Cut e
+Read s at (Value v after) = Got s at v after
 
 read-groups : (more scale sum : ℕ) (s : List ℕ) (was at : ℕ) → was ≤ at → Read s was (groups more scale sum s at)
 unfolding groups
-read-groups zero scale sum s was at l = refused badly
+read-groups zero scale sum s was at l = badly
 read-groups (suc more) scale sum s was at l =
-    by-test (Read s was) (leb (length s) at) (λ t. refused short) (λ t.
+    by-test (Read s was) (leb (length s) at) (λ t. short) (λ t.
     by-test (Read s was) _ (λ u. read-groups more _ _ s was (at + 1) (omega arith)) (λ u.
-    by-test (Read s was) _ (λ v. refused badly) (λ v.
-    by-test (Read s was) _ (λ w. refused badly) (λ w.
+    by-test (Read s was) _ (λ v. badly) (λ v.
+    by-test (Read s was) _ (λ w. badly) (λ w.
     let fits = leb-false (length s) at t in
-    got (record { further = omega arith; within = omega arith; small = ltb-false maxNumber (sum + getD s at 0 * scale) w })))))
+    record { further = omega arith; within = omega arith; small = ltb-false maxNumber (sum + getD s at 0 * scale) w }))))
 
 pub read-varint : (s : List ℕ) (at : ℕ) → Read s at (varintAt s at)
 unfolding varintAt
 read-varint s at = read-groups 4 1 0 s at at (omega arith)
 
 -- of a value that code was given
-abbrev GotBy : List ℕ → ℕ → Varint → Type 0
-GotBy s at (Bad e) = Unit {0}
-GotBy s at (Value v after) = Got s at v after
-
-got-by : {s : List ℕ} {at : ℕ} {x : Varint} → Read s at x → GotBy s at x
-got-by (refused c) = tt
-got-by (got g) = g
-
 pub varint-got : (s : List ℕ) (at : ℕ) {v after : ℕ} → varintAt s at ≡ Value v after → Got s at v after
-varint-got s at e = subst (GotBy s at) e (got-by (read-varint s at))
+varint-got s at e = subst (Read s at) e (read-varint s at)

@@ -48,6 +48,10 @@ chunkAt s at (Value n p) = if (ltb (length s) (p + n)) (Next.End (answer feedCut
 unfoldable pub nextAt : List ℕ → ℕ → Next
 nextAt s at = if (ltb at (length s)) (chunkAt s at (varintAt s at)) (Next.End (answer ok at))
 
+-- the bytes from a place up to another
+abbrev pub between : List ℕ → ℕ → ℕ → List ℕ
+between s first past = part s first (past - first)
+
 -- A chunk of a feed: the places of its length number, of its first byte and after its last, and its bytes
 pub record Placed : Type 0 where
   pub numberAt : ℕ
@@ -56,7 +60,7 @@ pub record Placed : Type 0 where
   pub bytes : List ℕ
 
 abbrev pub placed : List ℕ → ℕ → ℕ → ℕ → Placed
-placed s at first past = record { numberAt = at; first = first; past = past; bytes = part s first (past - first) }
+placed s at first past = record { numberAt = at; first = first; past = past; bytes = between s first past }
 
 -- The chunks from a place on, and the walk's own answer at their end
 pub record Chunks : Type 0 where
@@ -129,7 +133,7 @@ walk s b = walkFeed (feedOf s) b
 abbrev pub stepBy : Size → List ℕ → Next → Board → Left Step
 stepBy z s (Next.End a) b = left (Step.End a) b
 stepBy z s (Next.Chunk first past) b =
-    let l = read z (part s first (past - first)) b in
+    let l = read z (between s first past) b in
     left (Step.Chunk (l .said) past) (l .board)
 
 unfoldable pub walkStep : Size → List ℕ → ℕ → Board → Left Step

@@ -41,10 +41,11 @@ decide s = if (ltb maxFeed (length s)) Decision.TooLarge (decideBy (sizeNumbers 
 abbrev pub ascii : String → List ℕ
 ascii t = map (λ i. code (charAt t i)) (from 0 (len t))
 
--- A number in front of a text, with the fewest digits that hold it. It has 64 bits, so 20 digits at most
+-- a number's last digit
 abbrev pub digit : ℕ → ℕ
 digit n = code "0" + n % 10
 
+-- a number in front of a text, with the fewest digits that hold it. It has 64 bits, so 20 digits at most
 unfoldable pub higherDigits : ℕ → ℕ → List ℕ → List ℕ
 higherDigits zero n text = text
 higherDigits (suc more) n text = if (eqb n 0) text (higherDigits more (n / 10) (digit n ∷ text))
@@ -71,18 +72,20 @@ tooLargeLine = ascii "too large\n"
 abbrev pub chunkLine : ℕ → Answer → ℕ → List ℕ
 chunkLine i a n = decimal i (spaced (a .number ∷ a .place ∷ n ∷ []))
 
--- the line of one step of the walk, which has left a map: of the chunk that it has read, with the count as it now stands, or the end line
+-- the line of one step of the walk, which has left a map: of the chunk that it has read, with the count as it now stands (`countMap`, which
+-- is "how many entries are not 65,535" where the map is a board's), or the end line
 unfoldable pub stepLine : Size → ℕ → Step → List ℕ → List ℕ
 stepLine z i (Step.End a) m = endLine a
 stepLine z i (Step.Chunk a past) m = chunkLine i a (countMap z m .unsettled)
 
--- the lines of chunks, each read over what the one before it left, and the end line; i is the first one's number
+-- the lines of chunks, each read over what the one before it left; i is the first one's number
 unfoldable pub chunkLines : Size → ℕ → List Placed → Board → List ℕ
 chunkLines z i [] b = []
 chunkLines z i (c ∷ cs) b =
     let l = read z (c .bytes) b in
-    chunkLine i (l .said) (countMap z (l .board .map) .unsettled) ++ chunkLines z (i + 1) cs (l .board)
+    stepLine z i (Step.Chunk (l .said) (c .past)) (l .board .map) ++ chunkLines z (i + 1) cs (l .board)
 
+-- those from a place on, and the end line
 abbrev pub linesFrom : Size → List ℕ → ℕ → ℕ → Board → List ℕ
 linesFrom z s i at b = let cs = chunksFrom (length s) s at in chunkLines z i (cs .list) b ++ endLine (cs .ending)
 

@@ -81,6 +81,11 @@ pub enum Varint {
     Value(usize, usize),
 }
 
+impl Varint {
+    // the greatest value; specs/Feeds.antt has it as `maxNumber`
+    pub const MAX: usize = 16777215;
+}
+
 // The two size numbers that a feed starts with.
 pub enum SizeNumbers {
     // 12 or 13, at the number that fails

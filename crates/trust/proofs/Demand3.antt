@@ -11,7 +11,7 @@ use lib.ListN.{length, getD, replicate, length-replicate}
 use borrow.Author.Tests.{eq-eqb}
 use Rattle.spec.specs.declared.Size.{Size}
 use Rattle.spec.specs.Basics.{Every}
-use Rattle.spec.specs.Answers.{ok, answer, checked}
+use Rattle.spec.specs.Answers.{ok, answer}
 use Rattle.spec.specs.Sizes.{allowed, pixels, columns, lines, blocks}
 use Rattle.spec.specs.Pictures.{Origin, given, held, Below, shown, blockAt}
 use Rattle.spec.specs.Maps.{settled, entry, remap, fresh, unsettled, mapLeft, mapFault, freshMap, countMap}
@@ -19,6 +19,7 @@ use Rattle.spec.specs.Boards.{Board, board, left, Exact}
 use Rattle.spec.specs.Calls.{Call, call, run}
 use Rattle.spec.proofs.Lists.{every-replicate, length-from}
 use Rattle.spec.proofs.Limits.{allowed-size, area, blocks-below-mark, fault-none}
+use Rattle.spec.proofs.Maps.{fresh-made, count-made}
 use Rattle.spec.proofs.Blocks.{painted, shown-plain}
 use Rattle.spec.proofs.Origins.{remap-at, below-at, entry-held}
 use Rattle.spec.proofs.Boards.{inTurn-append}
@@ -39,12 +40,10 @@ module _ (z : Size) (a : allowed z ≡ true) (m : List ℕ) (e : length m ≡ bl
   no-map-fault = fault-none z (eqb (length m) (blocks z)) a (eq-eqb (length m) (blocks z) e)
 
   pub starts-fresh : freshMap z m ≡ mapLeft (answer ok 0) (fresh (blocks z))
-  unfolding freshMap checked
-  starts-fresh = rw no-map-fault
+  starts-fresh = fresh-made z m no-map-fault ∙ ap (λ (n : ℕ). mapLeft (answer ok 0) (fresh n)) e
 
   pub counts-unsettled : countMap z m ≡ record { answer = answer ok 0; unsettled = unsettled m }
-  unfolding countMap checked
-  counts-unsettled = rw no-map-fault
+  counts-unsettled = count-made z m no-map-fault
 
 module _ (z : Size) (fine : allowed z ≡ true) where
   -- a block's origin decides both its entry, from a fresh map, and what it shows
