@@ -1,11 +1,12 @@
 -- A block's flags by parts: the digits of a long number are those of its parts, one law for pairs, quads and octets. Assumes nothing.
-use Prim.Native.Nat.{ℕ, zero, suc, _+_, _-_, _*_, _/_, _%_, _^_, _<_}
+use Prim.Native.Nat.{ℕ, suc, _+_, _-_, _*_, _/_, _%_, _^_, _<_}
 use mathlib.Core.Path.{_≡_, sym, ap, _∙_}
 use mathlib.Core.List.{[], _∷_, _++_, append-assoc}
-use native.Mathlib.Nat.{add-zero, add-suc, mul-add, mul-assoc, mul-one, mul-suc, zero-add, pow-zero, pow-suc, pow-le-pow-right, div-div-eq-div-mul, mul-add-mod-self-right, mul-add-div-right}
+use native.Mathlib.Nat.{mul-add, mul-assoc, mul-suc, zero-add, div-div-eq-div-mul, mul-add-mod-self-right, mul-add-div-right}
 use native.Mathlib.Decide.{decLt}
 use native.Mathlib.Omega.{arith}
 use lib.Arith.{digits-div}
+use lib.Pow.{pow-add, pow-pos}
 use lib.ListN.{length, getD, length-map, length-append, List·getD-append}
 use lib.Seq.{getD-append-add, ext-getD}
 use Rattle.spec.specs.Basics.{if}
@@ -13,10 +14,6 @@ use Rattle.spec.specs.Flags.{digits, upper24, lower24, flags}
 use Rattle.spec.proofs.Lists.{getD-rule, length-from}
 
 -- digits of a number by parts
-pow-add : (a b : ℕ) → 2 ^ (a + b) ≡ 2 ^ a * 2 ^ b
-pow-add a zero = rw (add-zero a, pow-zero, mul-one)
-pow-add a (suc b) = rw (add-suc a b, pow-suc 2 (a + b), pow-suc 2 b, pow-add a b, mul-assoc (2 ^ a) (2 ^ b) 2)
-
 pub length-digits : (b n x : ℕ) → length (digits b n x) ≡ n
 unfolding digits
 length-digits b n x = simp (length-map, length-from)
@@ -25,14 +22,11 @@ digit : (b n x i : ℕ) → i < n → getD (digits b n x) i 0 ≡ x / 2 ^ (b * (
 unfolding digits
 digit b n x i h = getD-rule (λ i. x / 2 ^ (b * (n - suc i)) % 2 ^ b) n i 0 h
 
-pos : (a : ℕ) → 0 < 2 ^ a
-pos a = pow-le-pow-right {n = 2} (omega arith) {i = 0} {j = a} (omega arith)
-
 module _ (b m n x y : ℕ) (h : y < 2 ^ (b * n)) where
   upper-digit : (i : ℕ) → i < m → (x * 2 ^ (b * n) + y) / 2 ^ (b * (m + n - suc i)) ≡ x / 2 ^ (b * (m - suc i))
   upper-digit i l =
       let e : m + n - suc i ≡ n + (m - suc i) = omega arith in
-      rw (e, mul-add b n (m - suc i), pow-add (b * n) (b * (m - suc i)), ← div-div-eq-div-mul (x * 2 ^ (b * n) + y) (2 ^ (b * n)) (2 ^ (b * (m - suc i))), digits-div x h)
+      rw (e, mul-add b n (m - suc i), pow-add 2 (b * n) (b * (m - suc i)), ← div-div-eq-div-mul (x * 2 ^ (b * n) + y) (2 ^ (b * n)) (2 ^ (b * (m - suc i))), digits-div x h)
 
   lower-digit : (i : ℕ) → i < n → (x * 2 ^ (b * n) + y) / 2 ^ (b * (n - suc i)) % 2 ^ b ≡ y / 2 ^ (b * (n - suc i)) % 2 ^ b
   lower-digit i l =
@@ -40,8 +34,8 @@ module _ (b m n x y : ℕ) (h : y < 2 ^ (b * n)) where
       let f : b * n ≡ b * i + b + b * (n - suc i) = ap (λ (z : ℕ). b * z) e ∙ mul-add b (suc i) (n - suc i) ∙ rw mul-suc (omega arith) in
       let q = 2 ^ (b * (n - suc i)) in
       let p : x * 2 ^ (b * n) ≡ x * 2 ^ (b * i) * 2 ^ b * q =
-      rw (f, pow-add (b * i + b) (b * (n - suc i)), pow-add (b * i) b, ← mul-assoc x (2 ^ (b * i) * 2 ^ b) q, ← mul-assoc x (2 ^ (b * i)) (2 ^ b)) in
-      rw (p, mul-add-div-right {m = q} (pos (b * (n - suc i))) (x * 2 ^ (b * i) * 2 ^ b) y, mul-add-mod-self-right (x * 2 ^ (b * i)) (2 ^ b) (y / q))
+      rw (f, pow-add 2 (b * i + b) (b * (n - suc i)), pow-add 2 (b * i) b, ← mul-assoc x (2 ^ (b * i) * 2 ^ b) q, ← mul-assoc x (2 ^ (b * i)) (2 ^ b)) in
+      rw (p, mul-add-div-right {m = q} (pow-pos (b * (n - suc i))) (x * 2 ^ (b * i) * 2 ^ b) y, mul-add-mod-self-right (x * 2 ^ (b * i)) (2 ^ b) (y / q))
 
   pub digits-split : digits b (m + n) (x * 2 ^ (b * n) + y) ≡ digits b m x ++ digits b n y
   digits-split =

@@ -14,6 +14,10 @@ pub mod Refused
 pub mod Made
 pub mod SoFar
 pub mod Digits
+pub mod Numbers
+pub mod Packing
+pub mod Colours
+pub mod Written
 pub mod Cells
 pub mod Varints
 pub mod Loops

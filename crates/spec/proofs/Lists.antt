@@ -6,7 +6,7 @@ use mathlib.Core.List.{List, [], _∷_, _++_, map, map-append}
 use mathlib.Core.Bool.{Bool, true, false}
 use native.Mathlib.Nat.{le-of-suc-le-suc, not-suc-le-zero, add-zero, zero-add, suc-add, add-suc}
 use native.Mathlib.Omega.{arith}
-use lib.ListN.{length, getD, set, replicate}
+use lib.ListN.{length, getD, set, take, drop, replicate}
 use Rattle.spec.specs.declared.Answer.{Answer}
 use Rattle.spec.specs.Answers.{answer, checked}
 use Rattle.spec.specs.Basics.{if, from, Every, none, also}
@@ -54,6 +54,22 @@ module _ {ℓ} {A : Type ℓ} {P : A → Type 0} where
   pub every-replicate : (n : ℕ) (a : A) → P a → Every P (replicate n a)
   every-replicate zero a h = none
   every-replicate (suc n) a h = also h (every-replicate n a h)
+
+  pub every-take : (n : ℕ) {l : List A} → Every P l → Every P (take n l)
+  every-take zero e = none
+  every-take (suc n) none = none
+  every-take (suc n) (also h e) = also h (every-take n e)
+
+  pub every-drop : (n : ℕ) {l : List A} → Every P l → Every P (drop n l)
+  every-drop zero e = e
+  every-drop (suc n) none = none
+  every-drop (suc n) (also h e) = every-drop n e
+
+  -- within the list no default is needed
+  pub every-at : (l : List A) (i : ℕ) (d : A) → Every P l → i < length l → P (getD l i d)
+  every-at l i d none h = absurd (omega arith)
+  every-at l zero d (also p e) h = p
+  every-at l (suc i) d (also {xs} p e) h = every-at xs i d e (omega arith)
 
 pub every-weaken {ℓ} : {A : Type ℓ} {P Q : A → Type 0} {l : List A} → ((a : A) → P a → Q a) → Every P l → Every Q l
 every-weaken h none = none

@@ -1,5 +1,6 @@
 -- 01, "The writer's chunk". Assumes nothing.
 use Prim.Native.Nat.{ℕ, zero, suc, _+_, _-_, _*_, _^_}
+use mathlib.Core.Path.{_≡_}
 use mathlib.Core.List.{List, [], _∷_, _++_, map}
 use mathlib.Core.Bool.{Bool, true, false, _&&_}
 use lib.Dec.{leb, ltb, eqb}
@@ -86,7 +87,13 @@ opcodes zero (x ∷ xs) =
     let more = alike x (maxRun - 1) xs in
     opcodeFor x (suc more) ++ opcodes more xs
 
--- "Byte 0 is E1 (hex). Blocks in order." For lists whose entry k is `held k` or `given` sixteen bytes
+-- a list that can be written, from block k on: entry k is `held k`, or `given` sixteen pixels
+pub data Writable : ℕ → List Origin → Type 0 where
+  ends : {k : ℕ} → Writable k []
+  keeps : {k : ℕ} {os : List Origin} → Writable (suc k) os → Writable k (held k ∷ os)
+  gives : {k : ℕ} {px : List ℕ} {os : List Origin} → length px ≡ 16 → Writable (suc k) os → Writable k (given px ∷ os)
+
+-- "Byte 0 is E1 (hex). Blocks in order." For a list that can be written from block 0 on
 unfoldable pub encode : List Origin → List ℕ
 encode os = let body = opcodes 0 os in 0xE1 ∷ digits 8 3 (4 + length body) ++ body
 
