@@ -78,7 +78,8 @@ named-back es (also h e) = let t = named-back es e in λ i. entry-fits h i ∷ t
 pub pixels-back : (bits : ℕ) → bits ≤ 3 → (es px : List ℕ) → length es ≡ 2 ^ bits → length px ≡ 16 → Every (λ p. Has p es) px
     → chosen (flags bits (flagBytes bits (map (entryOf es) px))) es ≡ px
 pixels-back bits b es px l e h =
-    let small : Every (λ (i : ℕ). i < 2 ^ bits) (map (entryOf es) px) = every-map (entryOf es) (every-weaken (λ p g. rw l at (entry-below {p = p} {cs = es} g)) h) in
+    let small : Every (λ (i : ℕ). i < 2 ^ bits) (map (entryOf es) px) =
+    every-map (entryOf es) (every-weaken (λ p g. rw l at (entry-below {p = p} {cs = es} g)) h) in
     rw (flags-back bits b (map (entryOf es) px) (length-map px (entryOf es) ∙ e) small) (named-back es h)
 
 -- a block of one colour

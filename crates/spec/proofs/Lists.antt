@@ -3,19 +3,27 @@ use Prim.Native.Nat.{ℕ, zero, suc, _+_, _<_, _≤_}
 use mathlib.Core.Path.{_≡_, refl, sym, ap, _∙_}
 use mathlib.Core.Logic.{_≢_}
 use mathlib.Core.List.{List, [], _∷_, _++_, map, map-append}
-use mathlib.Core.Bool.{Bool, true, false}
+use mathlib.Core.Bool.{Bool, true, false, and-eq-true-iff, true≢false}
 use native.Mathlib.Nat.{le-of-suc-le-suc, not-suc-le-zero, add-zero, zero-add, suc-add, add-suc}
 use native.Mathlib.Omega.{arith}
+use lib.Dec.{eqb}
 use lib.ListN.{length, getD, set, take, drop, replicate}
+use borrow.Author.Tests.{eqb-true}
 use Rattle.spec.specs.declared.Answer.{Answer}
 use Rattle.spec.specs.Answers.{answer, checked}
-use Rattle.spec.specs.Basics.{if, from, Every, none, also}
+use Rattle.spec.specs.Basics.{if, from, same, Every, none, also}
 
 -- a property of a choice: in each branch its test is known
 pub by-test {ℓ} : {A : Type ℓ} (P : A → Type 0) (b : Bool) {x y : A} → (b ≡ true → P x) → (b ≡ false → P y) → P (if b x y)
 unfolding if
 by-test P true f g = f refl
 by-test P false f g = g refl
+
+-- a function of a choice is a choice
+pub if-apply {ℓ κ} : {A : Type ℓ} {B : Type κ} (f : A → B) (b : Bool) (x y : A) → f (if b x y) ≡ if b (f x) (f y)
+unfolding if
+if-apply f true x y = refl
+if-apply f false x y = refl
 
 -- a property of what is done after 1 and 2 have been looked for
 pub by-checked : {A : Type 0} (P : A → Type 0) (n : ℕ) {refuse : Answer → A} {go : A} → ((a : Answer) → P (refuse a)) → P go → P (checked n refuse go)
@@ -124,3 +132,14 @@ from-zero-more m = from-more 0 m ∙ rw (zero-add m)
 -- a list given by a rule, with one element more
 pub rule-more {ℓ} : {A : Type ℓ} (f : ℕ → A) (m : ℕ) → map f (from 0 (suc m)) ≡ map f (from 0 m) ++ f m ∷ []
 rule-more f m = ap (map f) (from-zero-more m) ∙ map-append f (from 0 m) (m ∷ [])
+
+-- two lists that the test finds the same are equal
+pub same-lists : (xs ys : List ℕ) → same xs ys ≡ true → xs ≡ ys
+same-lists [] [] t = refl
+same-lists [] (y ∷ ys) t = absurd (true≢false (sym t))
+same-lists (x ∷ xs) [] t = absurd (true≢false (sym t))
+same-lists (x ∷ xs) (y ∷ ys) t =
+    let both = and-eq-true-iff (eqb x y) (same xs ys) .0 t in
+    let e = eqb-true x y (both .0) in
+    let r = same-lists xs ys (both .1) in
+    λ i. e i ∷ r i

@@ -54,9 +54,9 @@ digits-number bits (suc n) ds e h =
     let s = last-apart n ds e in
     let d = every-at ds n 0 h (omega arith) in
     let x = number (2 ^ bits) (take n ds) in
+    let r = digits-number bits n (take n ds) (length-take-le n ds (omega arith)) (every-take n h) in
     ap (λ (l : List ℕ). digits bits (suc n) (number (2 ^ bits) l)) s
-    ∙ rw (number-more (2 ^ bits) (take n ds) (getD ds n 0), digits-more, high x bits d, low x bits d, digits-number bits n (take n ds) (length-take-le n ds (omega arith)) (every-take n h))
-    (sym s)
+    ∙ rw (number-more (2 ^ bits) (take n ds) (getD ds n 0), digits-more, high x bits d, low x bits d, r) (sym s)
 
 pub number-digits : (bits n x : ℕ) → x < 2 ^ (bits * n) → number (2 ^ bits) (digits bits n x) ≡ x
 number-digits bits zero x h =

@@ -73,11 +73,11 @@ unfolding flags flagBytes if
 octets is e small =
     let lu : length (take 8 is) ≡ 8 = length-take-le 8 is (omega arith) in
     let ll : length (drop 8 is) ≡ 8 = rw (length-drop, e) in
-    let u = number 8 (take 8 is) in
-    let l = number 8 (drop 8 is) in
     let su = every-take 8 small in
     let sl = every-drop 8 small in
-    rw (upper-back u l (number-below 3 8 (take 8 is) lu su), lower-back u l (number-below 3 8 (drop 8 is) ll sl), digits-number 3 8 (take 8 is) lu su, digits-number 3 8 (drop 8 is) ll sl)
+    let bu = number-below 3 8 (take 8 is) lu su in
+    let bl = number-below 3 8 (drop 8 is) ll sl in
+    rw (upper-back (number 8 (take 8 is)) _ bu, lower-back _ (number 8 (drop 8 is)) bl, digits-number 3 8 (take 8 is) lu su, digits-number 3 8 (drop 8 is) ll sl)
     (take-append-drop 8 is)
 
 -- what `flagBytes` packed, `flags` reads

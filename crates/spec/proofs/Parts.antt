@@ -7,7 +7,7 @@ use native.Mathlib.Nat.{add-zero, add-suc, suc-add}
 use native.Mathlib.Numerals.{add-one}
 use native.Mathlib.Omega.{arith}
 use lib.ListN.{length, getD, set, drop, length-drop, length-map, length-set}
-use lib.Seq.{sets, length-sets, take-suc, getD-take, getD-drop, getD-set-same, getD-set-other, length-take-le, ext-getD}
+use lib.Seq.{sets, length-sets, take-suc, getD-take, getD-drop, getD-set-same, getD-set-other, length-take-le, take-at, drop-at, ext-getD}
 use Rattle.spec.specs.Basics.{from, part}
 use Rattle.spec.proofs.Lists.{getD-rule, length-from}
 
@@ -16,6 +16,10 @@ part-at l a w j d h = rw (getD-take, getD-drop)
 
 pub length-part : (l : List ℕ) (a w : ℕ) → a + w ≤ length l → length (part l a w) ≡ w
 length-part l a w h = length-take-le w _ (rw length-drop (omega arith))
+
+-- what stands between two others
+pub part-of : {s : List ℕ} (before l after : List ℕ) (a w : ℕ) → s ≡ before ++ (l ++ after) → length before ≡ a → length l ≡ w → part s a w ≡ l
+part-of before l after a w e ea ew = rw (e, drop-at before (l ++ after) a ea) (take-at l after w ew)
 
 -- element by element, for a literal width
 pub part-listed : (l : List ℕ) (a w : ℕ) → a + w ≤ length l → part l a w ≡ map (λ i. getD l (a + i) 0) (from 0 w)

@@ -63,9 +63,9 @@ module _ (px : List ℕ) where
   single-some : 1 ≤ length (single px)
   unfolding single tabled
   single-some =
-      by-test Some (leb (length (colours px)) 2) (λ t. omega arith) (λ t.
-      by-test Some (leb (length (colours px)) 4) (λ t. omega arith) (λ t.
-      by-test Some (leb (length (colours px)) 8) (λ t. omega arith) (λ t. omega arith)))
+      by-test Some _ (λ t. omega arith) (λ t.
+      by-test Some _ (λ t. omega arith) (λ t.
+      by-test Some _ (λ t. omega arith) (λ t. omega arith)))
     where
       Some : List ℕ → Type 0
       Some l = 1 ≤ length l
@@ -76,9 +76,9 @@ module _ (px : List ℕ) where
   single-most : length px ≡ 16 → length (single px) ≤ 17
   unfolding single
   single-most e =
-      by-test Most (leb (length (colours px)) 2) (λ t. tabled-most 1 (leb-true _ _ t) (omega arith)) (λ t.
-      by-test Most (leb (length (colours px)) 4) (λ t. tabled-most 2 (leb-true _ _ t) (omega arith)) (λ t.
-      by-test Most (leb (length (colours px)) 8) (λ t. tabled-most 3 (leb-true _ _ t) (omega arith)) (λ t. omega arith)))
+      by-test Most _ (λ t. tabled-most 1 (leb-true _ _ t) (omega arith)) (λ t.
+      by-test Most _ (λ t. tabled-most 2 (leb-true _ _ t) (omega arith)) (λ t.
+      by-test Most _ (λ t. tabled-most 3 (leb-true _ _ t) (omega arith)) (λ t. omega arith)))
     where
       Most : List ℕ → Type 0
       Most l = length l ≤ 17

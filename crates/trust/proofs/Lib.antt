@@ -1,3 +1,5 @@
 pub mod Meanings
 pub mod Refusals
 pub mod Demand3
+pub mod Turns
+pub mod RoundTrip

@@ -1,2 +1,3 @@
 pub mod Means
 pub mod Demand
+pub mod RoundTrip

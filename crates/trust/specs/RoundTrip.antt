@@ -1,0 +1,23 @@
+-- The round trip: what the writer wrote, read over the old picture, gives the new one. Assumes nothing.
+use Prim.Native.Nat.{ℕ, _+_, _*_, _≤_}
+use mathlib.Core.Path.{_≡_}
+use mathlib.Core.List.{List, map}
+use lib.ListN.{length, getD}
+use Rattle.spec.specs.declared.Size.{Size}
+use Rattle.spec.specs.Basics.{if, from, same}
+use Rattle.spec.specs.Answers.{ok, answer}
+use Rattle.spec.specs.Sizes.{columns, blocks}
+use Rattle.spec.specs.Pictures.{blockAt}
+use Rattle.spec.specs.Maps.{settled}
+use Rattle.spec.specs.Boards.{board, left, read}
+use Rattle.spec.specs.Writing.{chunkFor}
+
+-- what the map then holds: "the written blocks are settled and every other entry is as it was"
+unfoldable pub marked : Size → List ℕ → List ℕ → List ℕ → List ℕ
+marked z old new m = map (λ k. if (same (blockAt (columns z) old k) (blockAt (columns z) new k)) (getD m k 0) settled) (from 0 (blocks z))
+
+-- reading what was written over the old picture: accepted, "reading it over the old picture gives the new one", over every lent map;
+-- and how long it can be: four bytes, and at most 17 for each block
+pub record ReadsBack (z : Size) (old new m : List ℕ) : Type 0 where
+  pub reads : read z (chunkFor z old new) (board old m) ≡ left (answer ok (length (chunkFor z old new))) (board new (marked z old new m))
+  pub short : length (chunkFor z old new) ≤ 4 + 17 * blocks z
