@@ -5,9 +5,9 @@ use mathlib.Core.List.{[], _∷_}
 use native.Mathlib.Nat.{mul-add, mul-le-mul, mul-le-mul-right}
 use native.Mathlib.Omega.{arith}
 use Rattle.spec.specs.Flags.{digits, chosen}
-use Rattle.smc.specs.Blocks.{rowOf}
+use Rattle.blocks.specs.Blocks.{rowOf}
 use Rattle.smc.specs.Factors.{factorOf}
-use Rattle.smc.proofs.Rowwise.{rowOf-word}
+use Rattle.blocks.proofs.Rowwise.{rowOf-word}
 
 -- one colour where a bit is clear, the other where it is set
 row : (a b f : ℕ) → a < 256 → b < 256 → f < 16 → rowOf (a * (16843009 - factorOf f) + b * factorOf f) ≡ chosen (digits 1 4 f) (a ∷ b ∷ [])

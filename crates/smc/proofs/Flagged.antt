@@ -9,7 +9,7 @@ use Rattle.spec.specs.Basics.{part}
 use Rattle.spec.specs.Flags.{digits, flags, chosen}
 use Rattle.spec.proofs.Parts.{part-at, part-listed}
 use Rattle.spec.proofs.Digits.{pair-flags, quad-flags, octet-flags}
-use Rattle.smc.proofs.Rowwise.{Four, four}
+use Rattle.smc.proofs.RowsPut.{Four, four}
 
 -- the colours of four rows of flags, and of one
 pub chosen-rows : (cs a b c d ds : List ℕ) → ds ≡ a ++ b ++ c ++ d → chosen ds cs ≡ chosen a cs ++ chosen b cs ++ chosen c cs ++ chosen d cs

@@ -21,7 +21,7 @@ use Rattle.spec.proofs.Made.{length-extend}
 use Rattle.spec.proofs.SoFar.{soFar-all, paint-none, remap-none}
 use Rattle.smc.specs.Painting.{Accepts, originsOf, Lent, kindAt, blocksAt, Room, after, Inside, Turned}
 use Rattle.smc.specs.Tables.{Holds}
-use Rattle.smc.proofs.Rowwise.{on}
+use Rattle.blocks.proofs.Rowwise.{on}
 
 never : (x : Outcome) → Accepts x → (a : Answer) → x ≡ refused a → ⊥
 never x g a h = let q = g .is in let z : _≡_ {A = ℕ} 0 1 = cc in omega arith

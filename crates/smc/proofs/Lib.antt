@@ -1,4 +1,4 @@
-pub mod Rowwise
+pub mod RowsPut
 pub mod Flagged
 pub mod Leads
 pub mod Counting

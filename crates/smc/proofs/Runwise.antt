@@ -8,10 +8,10 @@ use lib.ListN.{length, getD, set, replicate, length-set}
 use Rattle.spec.specs.Pictures.{blockAt, putBlock}
 use Rattle.spec.specs.Maps.{settled}
 use Rattle.spec.proofs.Blocks.{length-putPixels}
-use Rattle.smc.specs.declared.blocks.Rows.{Rows}
-use Rattle.smc.specs.Blocks.{rowOf, pixels, Canvas}
+use Rattle.blocks.specs.declared.Rows.{Rows}
+use Rattle.blocks.specs.Blocks.{rowOf, pixels, Canvas}
 use Rattle.smc.specs.Runs.{putEach, markEach}
-use Rattle.smc.proofs.Rowwise.{on}
+use Rattle.blocks.proofs.Rowwise.{on}
 
 pub length-putEach : (c k : ℕ) (f : ℕ → List ℕ → List ℕ) (i : ℕ) (pic : List ℕ) → length (putEach c k f i pic) ≡ length pic
 unfolding putEach

@@ -1,5 +1,4 @@
 -- What the reader's parts go by among themselves. A user of `read_chunk` needs none of it.
-pub mod Blocks
 pub mod Tables
 pub mod Factors
 pub mod Heads

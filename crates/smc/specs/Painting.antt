@@ -7,7 +7,7 @@ use lib.ListN.{length, getD}
 use Rattle.spec.specs.Basics.{part}
 use Rattle.spec.specs.Pictures.{Origin}
 use Rattle.spec.specs.Chunks.{Kind, kindOf, times, reach, once, each, missing, fills, upperAt, countAt, bodyAt, extend, stored, State, table, Outcome, refused, accepted}
-use Rattle.smc.specs.Blocks.{Canvas}
+use Rattle.blocks.specs.Blocks.{Canvas}
 use Rattle.smc.specs.Tables.{Holds}
 use Rattle.smc.specs.Shows.{Shows}
 

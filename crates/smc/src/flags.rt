@@ -1,8 +1,8 @@
 // A block's pixels by its flags: which colour of a table's entry each pixel takes.
-use crate::blocks;
-use crate::blocks::Rows;
+use crate::put;
 use crate::tables::OctetTable;
 use crate::tables::QuadTable;
+use blocks::Rows;
 ghost use mathlib.Core.Path.{_≡_};
 ghost use mathlib.Core.List.{[], _∷_};
 ghost use Prim.Native.Nat.{_+_, _*_, _≤_, _<_};
@@ -11,7 +11,7 @@ ghost use lib.Seq.{sets};
 ghost use Rattle.spec.specs.Basics.{part};
 ghost use Rattle.spec.specs.Flags.{digits, flags, chosen};
 ghost use Rattle.spec.specs.Pictures.{putBlock};
-ghost use Rattle.smc.specs.Blocks.{rowOf, pixels, Canvas};
+ghost use Rattle.blocks.specs.Blocks.{rowOf, pixels, Canvas};
 ghost use Rattle.smc.specs.Tables.{colours, size};
 ghost use Rattle.smc.specs.Factors.{Factors};
 
@@ -125,7 +125,7 @@ fn put_octet_row(
     let b = f / 4 % 8;
     let c = f % 4 * 2 + g / 8;
     let d = g % 8;
-    blocks::put_four(
+    put::put_four(
         pic,
         p,
         t[e + a as usize],

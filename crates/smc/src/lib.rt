@@ -1,10 +1,10 @@
 // Reading a chunk over a lent picture and map. Two passes: the first decides the answer and writes nothing, the second paints what the
 // first has accepted. The modules' own functions ask for what the one before them has made sure of; `read_chunk` asks for nothing.
-mod blocks;
 mod check;
 mod flags;
 mod heads;
 mod paint;
+mod put;
 mod runs;
 mod spans;
 mod tables;

@@ -1,10 +1,10 @@
 // Runs of blocks in picture and map, each painted in place, one after the other.
-use crate::blocks;
-use crate::blocks::Rows;
 use crate::flags;
+use crate::put;
 use crate::tables::OctetTable;
 use crate::tables::PairTable;
 use crate::tables::QuadTable;
+use blocks::Rows;
 use spec::SETTLED;
 ghost use mathlib.Core.Path.{_≡_};
 ghost use Prim.Native.Nat.{_+_, _*_, _≤_, _<_};
@@ -13,7 +13,7 @@ ghost use Rattle.spec.specs.Basics.{part};
 ghost use Rattle.spec.specs.Flags.{flags, chosen};
 ghost use Rattle.spec.specs.Maps.{settled};
 ghost use Rattle.spec.specs.Pictures.{blockAt, putBlock};
-ghost use Rattle.smc.specs.Blocks.{pixels, Canvas};
+ghost use Rattle.blocks.specs.Blocks.{pixels, Canvas};
 ghost use Rattle.smc.specs.Factors.{Factors};
 ghost use Rattle.smc.specs.Runs.{puts, marks, copied, moved};
 ghost use Rattle.smc.specs.Tables.{colours, size};
@@ -26,7 +26,7 @@ fn settle(pic: &mut [u8], map: &mut [u16], c: usize, r: usize, k: usize, rows: R
     ensures { λ _. ⌜ now (pic .exit) ≡ putBlock c k (pixels rows) (now (pic .entry)) ⌝ }
     ensures { λ _. ⌜ now (map .exit) ≡ set (now (map .entry)) k settled ⌝ }
 {
-    blocks::put_block(pic, c, r, k, rows);
+    put::put_block(pic, c, r, k, rows);
     map[k] = SETTLED;
 }
 
@@ -39,9 +39,8 @@ fn copy_block(pic: &mut [u8], map: &mut [u16], c: usize, r: usize, j: usize, k: 
     ensures { λ _. ⌜ now (pic .exit) ≡ putBlock c k (blockAt c (now (pic .entry)) j) (now (pic .entry)) ⌝ }
     ensures { λ _. ⌜ now (map .exit) ≡ set (now (map .entry)) k (getD (now (map .entry)) j 0) ⌝ }
 {
-    let p = blocks::place_of(c, j);
-    let rows = blocks::rows_at(pic, p, 4 * c);
-    blocks::put_block(pic, c, r, k, rows);
+    let rows = blocks::block_at(pic, c, r, j);
+    put::put_block(pic, c, r, k, rows);
     map[k] = map[j];
 }
 

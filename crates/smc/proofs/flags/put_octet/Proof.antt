@@ -6,7 +6,8 @@ use borrow.Author.Needs.{needs}
 use Rattle.spec.specs.Basics.{part}
 use Rattle.spec.specs.Pictures.{putBlock}
 use Rattle.smc.proofs.Flagged.{four-chosen, octet-rows}
-use Rattle.smc.proofs.Rowwise.{few, span, put-rows}
+use Rattle.blocks.proofs.Rowwise.{few, span}
+use Rattle.smc.proofs.RowsPut.{put-rows}
 use Rattle.smc.proofs.flags.put_octet.Statement.{statement}
 use Rattle.smc.proofs.flags.put_octet.Tie as tie
 

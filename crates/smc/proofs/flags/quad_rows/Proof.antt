@@ -1,7 +1,7 @@
 use native.Mathlib.Omega.{arith}
 use borrow.Author.Needs.{needs}
 use Rattle.spec.specs.Basics.{part}
-use Rattle.smc.specs.Blocks.{pixels}
+use Rattle.blocks.specs.Blocks.{pixels}
 use Rattle.smc.specs.Tables.{colours}
 use Rattle.smc.proofs.Flagged.{quad-rows}
 use Rattle.smc.proofs.flags.quad_rows.Statement.{statement}

@@ -3,7 +3,7 @@ use mathlib.Core.Path.{sym, _∙_}
 use native.Mathlib.Omega.{arith}
 use borrow.Author.Needs.{needs}
 use Rattle.spec.specs.Basics.{part}
-use Rattle.smc.proofs.Rowwise.{rows-part}
+use Rattle.blocks.proofs.Rowwise.{rows-part}
 use Rattle.smc.proofs.Runwise.{Putting, running-none, running-more, running-all}
 use Rattle.smc.proofs.runs.whole_run.Statement.{statement}
 use Rattle.smc.proofs.runs.whole_run.Tie as tie

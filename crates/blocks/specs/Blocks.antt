@@ -4,7 +4,7 @@ use mathlib.Core.Path.{_≡_}
 use mathlib.Core.List.{List, [], _∷_, _++_}
 use lib.ListN.{length, getD}
 use Rattle.spec.specs.Sizes.{maxColumns, maxLines}
-use Rattle.smc.specs.declared.blocks.Rows.{Rows}
+use Rattle.blocks.specs.declared.Rows.{Rows}
 
 unfoldable pub rowOf : ℕ → List ℕ
 rowOf w = w % 256 ∷ w / 256 % 256 ∷ w / 65536 % 256 ∷ w / 16777216 % 256 ∷ []

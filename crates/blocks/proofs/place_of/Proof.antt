@@ -2,9 +2,9 @@ use native.Mathlib.Nat.{add-zero, div-le-self, mod-lt}
 use native.Mathlib.Omega.{arith}
 use borrow.Author.Needs.{needs}
 use Rattle.spec.specs.Pictures.{place}
-use Rattle.smc.proofs.Rowwise.{line-small}
-use Rattle.smc.proofs.blocks.place_of.Statement.{statement}
-use Rattle.smc.proofs.blocks.place_of.Tie as tie
+use Rattle.blocks.proofs.Rowwise.{line-small}
+use Rattle.blocks.proofs.place_of.Statement.{statement}
+use Rattle.blocks.proofs.place_of.Tie as tie
 
 cast-line : tie.Need-cast-line
 cast-line c = search needs

@@ -1,9 +1,10 @@
 use native.Mathlib.Omega.{arith}
 use borrow.Author.Needs.{needs}
-use Rattle.smc.specs.Blocks.{pixels}
-use Rattle.smc.proofs.Rowwise.{few, span, four-rowOf, put-rows}
-use Rattle.smc.proofs.blocks.put_block.Statement.{statement}
-use Rattle.smc.proofs.blocks.put_block.Tie as tie
+use Rattle.blocks.specs.Blocks.{pixels}
+use Rattle.blocks.proofs.Rowwise.{few, span}
+use Rattle.smc.proofs.RowsPut.{four-rowOf, put-rows}
+use Rattle.smc.proofs.put.put_block.Statement.{statement}
+use Rattle.smc.proofs.put.put_block.Tie as tie
 
 place-of-requires : tie.Need-place-of-requires
 place-of-requires c κs = omega (arith, few (c .before .args .c) (c .before .args .r) (c .before .args .k) (omega arith) (omega arith) (omega arith))

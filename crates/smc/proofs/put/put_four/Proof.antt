@@ -1,9 +1,9 @@
 use native.Mathlib.Omega.{arith}
 use lib.ListN.{length-set}
 use borrow.Author.Needs.{needs}
-use Rattle.smc.proofs.Rowwise.{sets-four}
-use Rattle.smc.proofs.blocks.put_four.Statement.{statement}
-use Rattle.smc.proofs.blocks.put_four.Tie as tie
+use Rattle.smc.proofs.RowsPut.{sets-four}
+use Rattle.smc.proofs.put.put_four.Statement.{statement}
+use Rattle.smc.proofs.put.put_four.Tie as tie
 
 slice-write-pic : tie.Need-slice-write-pic
 slice-write-pic c = search needs

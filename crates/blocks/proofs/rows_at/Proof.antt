@@ -1,7 +1,7 @@
 use borrow.Author.Needs.{needs}
-use Rattle.smc.specs.Blocks.{pixels, rows}
-use Rattle.smc.proofs.blocks.rows_at.Statement.{statement}
-use Rattle.smc.proofs.blocks.rows_at.Tie as tie
+use Rattle.blocks.specs.Blocks.{pixels, rows}
+use Rattle.blocks.proofs.rows_at.Statement.{statement}
+use Rattle.blocks.proofs.rows_at.Tie as tie
 
 row-at-requires : tie.Need-row-at-requires
 row-at-requires c κs = search needs

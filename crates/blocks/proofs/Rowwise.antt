@@ -1,17 +1,16 @@
--- A block by four rows: where the rows stand, and that to put and to get them is to put and to get the block. Assumes nothing.
-use Prim.Native.Nat.{ℕ, suc, _+_, _*_, _/_, _%_, _<_, _≤_}
+-- A block by four rows: where the rows stand, and that to get them is to get the block. Assumes nothing.
+use Prim.Native.Nat.{ℕ, _+_, _*_, _/_, _%_, _<_, _≤_}
 use mathlib.Core.Path.{_≡_, refl, sym, _∙_}
-use mathlib.Core.List.{List, [], _∷_, _++_}
+use mathlib.Core.List.{List, [], _∷_}
 use native.Mathlib.Nat.{add-mul, add-zero, mul-le-mul, div-le-self}
 use native.Mathlib.Omega.{arith}
-use lib.ListN.{length, set}
-use lib.Seq.{sets}
+use lib.ListN.{length}
 use Rattle.spec.specs.Basics.{part}
 use Rattle.spec.specs.Sizes.{maxColumns, maxLines, maxBlocks, maxWidth}
-use Rattle.spec.specs.Pictures.{place, shown, blockAt, putPixels, putBlock}
+use Rattle.spec.specs.Pictures.{place, shown, blockAt}
 use Rattle.spec.proofs.Parts.{part-listed}
 use Rattle.spec.proofs.Places.{place-below}
-use Rattle.smc.specs.Blocks.{rowOf, row, rows, Canvas}
+use Rattle.blocks.specs.Blocks.{rowOf, row, rows, Canvas}
 
 pub few : (c r k : ℕ) → c ≤ maxColumns → r ≤ maxLines → k < c * r → k < maxBlocks
 few c r k a b h = omega (arith, mul-le-mul {n₂ = maxColumns} {m₂ = maxLines} a b)
@@ -43,48 +42,9 @@ rowOf-word a b c d w ha hb hc hd e =
     let e3 : d % 256 ≡ d = omega arith in
     rw (q1, q2, q3, e0, e1, e2, e3)
 
--- four stores one after the other
-pub sets-four : (l : List ℕ) (p a b c d : ℕ) → set (set (set (set l p a) (p + 1) b) (p + 2) c) (p + 3) d ≡ sets l p (a ∷ b ∷ c ∷ d ∷ [])
-sets-four l p a b c d =
-    let e1 : p + 1 ≡ suc p = omega arith in
-    let e2 : p + 2 ≡ suc (suc p) = omega arith in
-    let e3 : p + 3 ≡ suc (suc (suc p)) = omega arith in
-    rw (e1, e2, e3)
-
--- a row has four pixels
-pub data Four : List ℕ → Type 0 where
-  four : {a b c d : ℕ} → Four (a ∷ b ∷ c ∷ d ∷ [])
-
-pub four-rowOf : (w : ℕ) → Four (rowOf w)
-unfolding rowOf
-four-rowOf w = four
-
 module _ (c k p : ℕ) (ep : p ≡ place c k 0) where
-  at : (i y x q : ℕ) → i / 4 ≡ y → i % 4 ≡ x → p + y * (4 * c) + x ≡ q → place c k i ≡ q
+  pub at : (i y x q : ℕ) → i / 4 ≡ y → i % 4 ≡ x → p + y * (4 * c) + x ≡ q → place c k i ≡ q
   at i y x q ey ex eq = place-split c k i ∙ rw (ey, ex, ← ep) eq
-
-  pub put-rows : (pic : List ℕ) {f g h j : List ℕ} → Four f → Four g → Four h → Four j
-      → sets (sets (sets (sets pic p f) (p + 4 * c) g) (p + 2 * (4 * c)) h) (p + 3 * (4 * c)) j ≡ putBlock c k (f ++ g ++ h ++ j) pic
-  unfolding putPixels
-  put-rows pic four four four four =
-      rw (
-        at 0 0 0 p refl refl (omega arith),
-        at 1 0 1 (suc p) refl refl (omega arith),
-        at 2 0 2 (suc (suc p)) refl refl (omega arith),
-        at 3 0 3 (suc (suc (suc p))) refl refl (omega arith),
-        at 4 1 0 (p + 4 * c) refl refl (omega arith),
-        at 5 1 1 (suc (p + 4 * c)) refl refl (omega arith),
-        at 6 1 2 (suc (suc (p + 4 * c))) refl refl (omega arith),
-        at 7 1 3 (suc (suc (suc (p + 4 * c)))) refl refl (omega arith),
-        at 8 2 0 (p + 2 * (4 * c)) refl refl (omega arith),
-        at 9 2 1 (suc (p + 2 * (4 * c))) refl refl (omega arith),
-        at 10 2 2 (suc (suc (p + 2 * (4 * c)))) refl refl (omega arith),
-        at 11 2 3 (suc (suc (suc (p + 2 * (4 * c))))) refl refl (omega arith),
-        at 12 3 0 (p + 3 * (4 * c)) refl refl (omega arith),
-        at 13 3 1 (suc (p + 3 * (4 * c))) refl refl (omega arith),
-        at 14 3 2 (suc (suc (p + 3 * (4 * c)))) refl refl (omega arith),
-        at 15 3 3 (suc (suc (suc (p + 3 * (4 * c))))) refl refl (omega arith),
-      )
 
   pub rows-block : (pic : List ℕ) → rows pic p (4 * c) ≡ blockAt c pic k
   unfolding rows row shown

@@ -1,7 +1,7 @@
 use borrow.Author.Needs.{needs}
-use Rattle.smc.specs.Blocks.{row}
-use Rattle.smc.proofs.blocks.row_at.Statement.{statement}
-use Rattle.smc.proofs.blocks.row_at.Tie as tie
+use Rattle.blocks.specs.Blocks.{row}
+use Rattle.blocks.proofs.row_at.Statement.{statement}
+use Rattle.blocks.proofs.row_at.Tie as tie
 
 shared-slice-read-word : tie.Need-shared-slice-read-word
 shared-slice-read-word c = search needs

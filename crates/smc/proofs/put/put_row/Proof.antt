@@ -1,7 +1,7 @@
 use borrow.Author.Needs.{needs}
-use Rattle.smc.specs.Blocks.{rowOf}
-use Rattle.smc.proofs.blocks.put_row.Statement.{statement}
-use Rattle.smc.proofs.blocks.put_row.Tie as tie
+use Rattle.blocks.specs.Blocks.{rowOf}
+use Rattle.smc.proofs.put.put_row.Statement.{statement}
+use Rattle.smc.proofs.put.put_row.Tie as tie
 
 cast-put-four : tie.Need-cast-put-four
 cast-put-four c = search needs

@@ -1,13 +1,15 @@
-// A picture's blocks: where one stands, and putting and getting one. A block is held as four rows of four pixels. Here and in the modules
-// above, c is how many blocks stand to a line, r how many lines of them there are, and k a block's number.
+// A picture's blocks: where one stands, and getting one. A block is held as four rows of four pixels. Here c is how many blocks stand to a
+// line, r how many lines of them there are, and k a block's number.
+//
+// What reader and writer share. These functions ask for a block that is there: this crate is internal, and nothing of it is exported
+// (docs/DECISIONS.md).
 ghost use mathlib.Core.Path.{_≡_};
 ghost use mathlib.Core.List.{[], _∷_};
 ghost use Prim.Native.Nat.{_+_, _*_, _≤_, _<_};
 ghost use lib.ListN.{length};
-ghost use lib.Seq.{sets};
 ghost use Rattle.spec.specs.Sizes.{maxColumns, maxBlocks, maxWidth};
-ghost use Rattle.spec.specs.Pictures.{place, putBlock};
-ghost use Rattle.smc.specs.Blocks.{rowOf, pixels, row, rows, Canvas};
+ghost use Rattle.spec.specs.Pictures.{place, blockAt};
+ghost use Rattle.blocks.specs.Blocks.{rowOf, pixels, row, rows, Canvas};
 
 // Four rows of four pixels each, the first pixel of a row lowest.
 pub struct Rows {
@@ -45,7 +47,7 @@ pub fn rows_at(s: &[u8], p: usize, w: usize) -> Rows
     Rows { a, b, c, d }
 }
 
-// The place of block k's first pixel, c blocks to a line.
+// The place of block k's first pixel.
 pub fn place_of(c: usize, k: usize) -> usize
     requires { ⌜ 0 < c ⌝ }
     requires { ⌜ c ≤ maxColumns ⌝ }
@@ -58,42 +60,12 @@ pub fn place_of(c: usize, k: usize) -> usize
     4 * line as usize * (4 * c) + 4 * column as usize
 }
 
-// Stores a row of four pixels at pic[p].
-pub fn put_four(pic: &mut [u8], p: usize, a: u8, b: u8, c: u8, d: u8)
-    requires { ⌜ p + 4 ≤ length (now pic) ⌝ }
-    ensures { λ _. ⌜ now (pic .exit) ≡ sets (now (pic .entry)) p (a ∷ b ∷ c ∷ d ∷ []) ⌝ }
-{
-    pic[p] = a;
-    pic[p + 1] = b;
-    pic[p + 2] = c;
-    pic[p + 3] = d;
-}
-
-// The same of a row that is held as a number.
-fn put_row(pic: &mut [u8], p: usize, w: u32)
-    requires { ⌜ p + 4 ≤ length (now pic) ⌝ }
-    ensures { λ _. ⌜ now (pic .exit) ≡ sets (now (pic .entry)) p (rowOf w) ⌝ }
-{
-    put_four(
-        pic,
-        p,
-        (w % 256) as u8,
-        (w / 256 % 256) as u8,
-        (w / 65536 % 256) as u8,
-        (w / 16777216 % 256) as u8,
-    );
-}
-
-// Puts a block at block k of a picture of c by r blocks.
-pub fn put_block(pic: &mut [u8], c: usize, r: usize, k: usize, rows: Rows)
+// Block k of a picture of c by r blocks.
+pub fn block_at(pic: &[u8], c: usize, r: usize, k: usize) -> Rows
     requires { ⌜ Canvas c r (now pic) ⌝ }
     requires { ⌜ k < c * r ⌝ }
-    ensures { λ _. ⌜ now (pic .exit) ≡ putBlock c k (pixels rows) (now (pic .entry)) ⌝ }
+    ensures { λ b. ⌜ pixels b ≡ blockAt c (now (pic .entry)) k ⌝ }
 {
     let p = place_of(c, k);
-    let w = 4 * c;
-    put_row(pic, p, rows.a);
-    put_row(pic, p + w, rows.b);
-    put_row(pic, p + 2 * w, rows.c);
-    put_row(pic, p + 3 * w, rows.d);
+    rows_at(pic, p, 4 * c)
 }

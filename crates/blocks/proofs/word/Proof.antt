@@ -1,9 +1,9 @@
 use mathlib.Core.Path.{refl}
 use native.Mathlib.Omega.{arith}
 use borrow.Author.Needs.{needs}
-use Rattle.smc.proofs.Rowwise.{rowOf-word}
-use Rattle.smc.proofs.blocks.word.Statement.{statement}
-use Rattle.smc.proofs.blocks.word.Tie as tie
+use Rattle.blocks.proofs.Rowwise.{rowOf-word}
+use Rattle.blocks.proofs.word.Statement.{statement}
+use Rattle.blocks.proofs.word.Tie as tie
 
 mul-result : tie.Need-mul-result
 mul-result c = search needs
