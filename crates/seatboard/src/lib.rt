@@ -7,6 +7,7 @@ ghost use mathlib.Core.Path.{_≡_};
 ghost use Rattle.spec.specs.Boards.{board, read};
 ghost use Rattle.spec.specs.Feeds.{walk};
 ghost use Rattle.spec.specs.Maps.{freshMap, countMap};
+ghost use Rattle.spec.specs.Writing.{write};
 
 // Makes a fresh map.
 #[no_mangle]
@@ -38,6 +39,20 @@ pub extern "C" fn seatboard_read_chunk(
     ensures { λ _. ⌜ now (map .exit) ≡ read size (now (chunk .entry)) (board (now (picture .entry)) (now (map .entry))) .board .map ⌝ }
 {
     smc::read_chunk(size, chunk, picture, map)
+}
+
+// Writes the chunk that makes a new picture out of an old one.
+#[no_mangle]
+pub extern "C" fn seatboard_write_chunk(
+    size: Size,
+    old: &[u8],
+    new: &[u8],
+    out: &mut [u8],
+) -> Answer
+    ensures { λ r. ⌜ r ≡ write size (now (old .entry)) (now (new .entry)) (now (out .entry)) .answer ⌝ }
+    ensures { λ _. ⌜ now (out .exit) ≡ write size (now (old .entry)) (now (new .entry)) (now (out .entry)) .output ⌝ }
+{
+    smc_writer::write_chunk(size, old, new, out)
 }
 
 // Walks a feed over a lent picture and map.

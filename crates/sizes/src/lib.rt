@@ -54,3 +54,20 @@ pub fn board_fault(size: Size, bytes: usize, entries: usize) -> u8
     }
     Answer::BAD_SIZE
 }
+
+// 1, or 2 for an old and a new picture of so many bytes, or 0.
+pub fn pictures_fault(size: Size, old: usize, new: usize) -> u8
+    ensures { λ r. ⌜ r ≡ fault size (eqb old (pixels size) && eqb new (pixels size)) ⌝ }
+{
+    if is_allowed(size) {
+        let bytes = size.width * size.height;
+        if old == bytes {
+            if new == bytes {
+                return Answer::OK;
+            }
+            return Answer::BAD_LENGTH;
+        }
+        return Answer::BAD_LENGTH;
+    }
+    Answer::BAD_SIZE
+}

@@ -8,7 +8,7 @@ use native.Mathlib.Nat.{le-of-suc-le-suc, not-suc-le-zero, add-zero, zero-add, s
 use native.Mathlib.Omega.{arith}
 use lib.Dec.{eqb}
 use lib.ListN.{length, getD, set, take, drop, replicate}
-use borrow.Author.Tests.{eqb-true}
+use borrow.Author.Tests.{eq-eqb, eqb-true}
 use Rattle.spec.specs.declared.Answer.{Answer}
 use Rattle.spec.specs.Answers.{answer, checked}
 use Rattle.spec.specs.Basics.{if, from, same, Every, none, also}
@@ -143,3 +143,7 @@ same-lists (x ∷ xs) (y ∷ ys) t =
     let e = eqb-true x y (both .0) in
     let r = same-lists xs ys (both .1) in
     λ i. e i ∷ r i
+
+pub same-self : (l : List ℕ) → same l l ≡ true
+same-self [] = refl
+same-self (x ∷ l) = rw (eq-eqb x x refl, same-self l)

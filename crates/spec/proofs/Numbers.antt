@@ -1,8 +1,8 @@
 -- A number and its digits, highest first, once over the bits of a digit; all by the last digit. Assumes nothing.
 use Prim.Native.Nat.{ℕ, zero, suc, _+_, _*_, _/_, _%_, _^_, _<_}
 use mathlib.Core.Path.{_≡_, refl, sym, ap, _∙_}
-use mathlib.Core.List.{List, [], _∷_, _++_, foldl}
-use native.Mathlib.Nat.{mul-zero, mul-one, mul-suc, div-one, mod-lt, mod-mod}
+use mathlib.Core.List.{List, [], _∷_, _++_, foldl, foldl-append}
+use native.Mathlib.Nat.{add-mul, div-one, mod-lt, mod-mod, mul-assoc, mul-one, mul-suc, mul-zero, pow-succ', pow-zero, zero-add, zero-mul}
 use native.Mathlib.Numerals.{add-one}
 use native.Mathlib.Omega.{arith}
 use lib.Arith.{digits-lt}
@@ -14,12 +14,22 @@ use Rattle.spec.specs.Flags.{number, digits}
 use Rattle.spec.proofs.Lists.{every-take, every-at, every-append}
 use Rattle.spec.proofs.Digits.{digits-split}
 
-fold-more : (base a : ℕ) (ds : List ℕ) (d : ℕ) → foldl (λ a d. a * base + d) a (ds ++ d ∷ []) ≡ foldl (λ a d. a * base + d) a ds * base + d
-fold-more base a [] d = refl
-fold-more base a (x ∷ ds) d = fold-more base (a * base + x) ds d
+-- digits after others: the others move up by as many places
+fold-from : (base a : ℕ) (ds : List ℕ) → foldl (λ a d. a * base + d) a ds ≡ a * base ^ length ds + number base ds
+fold-from base a [] = let e : a ≡ a * base ^ 0 + 0 = rw (pow-zero base) (omega arith) in e
+fold-from base a (x ∷ ds) =
+    let p = base ^ length ds in
+    let e = fold-from base (a * base + x) ds in
+    let f = fold-from base (0 * base + x) ds in
+    let l : (a * base + x) * p ≡ a * base ^ suc (length ds) + x * p = rw (add-mul (a * base) x p, mul-assoc a base p, ← pow-succ' base (length ds)) in
+    let r : (0 * base + x) * p ≡ x * p = rw (zero-mul base, zero-add x) in
+    omega arith
+
+pub number-append : (base : ℕ) (xs ys : List ℕ) → number base (xs ++ ys) ≡ number base xs * base ^ length ys + number base ys
+number-append base xs ys = foldl-append (λ a d. a * base + d) 0 xs ys ∙ fold-from base (number base xs) ys
 
 pub number-more : (base : ℕ) (ds : List ℕ) (d : ℕ) → number base (ds ++ d ∷ []) ≡ number base ds * base + d
-number-more base ds d = fold-more base 0 ds d
+number-more base ds d = foldl-append (λ a d. a * base + d) 0 ds (d ∷ [])
 
 -- the last digit apart
 digit-one : (bits x : ℕ) → digits bits 1 x ≡ (x % 2 ^ bits) ∷ []

@@ -1,12 +1,12 @@
 -- Parts of a list, and runs of stores into one. Assumes nothing.
 use Prim.Native.Nat.{ℕ, zero, suc, _+_, _<_, _≤_}
-use mathlib.Core.Path.{_≡_, refl, sym, _∙_}
+use mathlib.Core.Path.{_≡_, refl, sym, ap, _∙_}
 use mathlib.Core.Logic.{_≢_}
 use mathlib.Core.List.{List, [], _∷_, _++_, map}
 use native.Mathlib.Nat.{add-zero, add-suc, suc-add}
 use native.Mathlib.Numerals.{add-one}
 use native.Mathlib.Omega.{arith}
-use lib.ListN.{length, getD, set, drop, length-drop, length-map, length-set}
+use lib.ListN.{length, getD, set, take, drop, length-drop, length-map, length-set}
 use lib.Seq.{sets, length-sets, take-suc, getD-take, getD-drop, getD-set-same, getD-set-other, length-take-le, take-at, drop-at, ext-getD}
 use Rattle.spec.specs.Basics.{from, part}
 use Rattle.spec.proofs.Lists.{getD-rule, length-from}
@@ -28,6 +28,20 @@ part-listed l a w h =
     ext-getD 0 _ _ (len ∙ sym (simp (length-map, length-from))) (λ j hj.
     let g : j < w = rw len at hj in
     part-at l a w j 0 g ∙ sym (getD-rule (λ i. getD l (a + i) 0) w j 0 g))
+
+-- a part of a mapped list
+map-take : (f : ℕ → ℕ) (w : ℕ) (l : List ℕ) → map f (take w l) ≡ take w (map f l)
+map-take f zero l = refl
+map-take f (suc w) [] = refl
+map-take f (suc w) (x ∷ l) = ap (λ (t : List ℕ). f x ∷ t) (map-take f w l)
+
+map-drop : (f : ℕ → ℕ) (a : ℕ) (l : List ℕ) → map f (drop a l) ≡ drop a (map f l)
+map-drop f zero l = refl
+map-drop f (suc a) [] = refl
+map-drop f (suc a) (x ∷ l) = map-drop f a l
+
+pub map-part : (f : ℕ → ℕ) (l : List ℕ) (a w : ℕ) → map f (part l a w) ≡ part (map f l) a w
+map-part f l a w = map-take f w (drop a l) ∙ ap (take w) (map-drop f a l)
 
 -- one element more, at the end
 part-more : (l : List ℕ) (a i : ℕ) → a + i < length l → part l a (suc i) ≡ part l a i ++ getD l (a + i) 0 ∷ []

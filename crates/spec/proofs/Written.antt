@@ -2,15 +2,16 @@
 use Prim.Native.Nat.{ℕ, zero, suc, _+_, _-_, _*_, _^_, _≤_}
 use mathlib.Core.Path.{_≡_, refl}
 use mathlib.Core.List.{List, [], _∷_, map}
+use mathlib.Core.Bool.{false}
 use native.Mathlib.Omega.{arith}
 use lib.Dec.{leb}
 use lib.ListN.{length, drop, length-append, length-map}
 use borrow.Author.Tests.{leb-true}
 use Rattle.spec.specs.declared.Size.{Size}
-use Rattle.spec.specs.Basics.{from, same}
+use Rattle.spec.specs.Basics.{if, from, same}
 use Rattle.spec.specs.Sizes.{columns, blocks}
 use Rattle.spec.specs.Pictures.{Origin, given, held, blockAt}
-use Rattle.spec.specs.Writing.{colours, entries, tabled, single, counting, plain, opcodeFor, joins, alike, maxRun, opcodes, Writable, ends, keeps, gives, encode, difference, differences}
+use Rattle.spec.specs.Writing.{colours, entries, tabled, single, counting, plain, opcodeFor, joins, alike, maxRun, opcodes, Writable, ends, keeps, gives, encode, maxLength, difference, differences}
 use Rattle.spec.proofs.Lists.{by-test, length-from}
 use Rattle.spec.proofs.Blocks.{length-shown}
 use Rattle.spec.proofs.Digits.{length-digits}
@@ -34,6 +35,23 @@ module _ (x : Origin) where
   alike-most (suc most) (y ∷ ys) =
       let h = alike-most most ys in
       by-test (λ (j : ℕ). j ≤ suc most) (joins x y) (λ t. omega arith) (λ t. omega arith)
+
+  -- it ends where there is no block, or one that does not join
+  pub alike-none : (most : ℕ) → alike x most [] ≡ 0
+  unfolding alike
+  alike-none zero = refl
+  alike-none (suc most) = refl
+
+  pub alike-not : (most : ℕ) (y : Origin) (ys : List Origin) → joins x y ≡ false → alike x most (y ∷ ys) ≡ 0
+  unfolding alike if
+  alike-not zero y ys t = refl
+  alike-not (suc most) y ys t = rw t
+
+-- a block of several colours stands by itself
+pub alike-alone : (px : List ℕ) → plain px ≡ false → (most : ℕ) (ys : List Origin) → alike (given px) most ys ≡ 0
+alike-alone px t most [] = alike-none (given px) most
+alike-alone px t most (held k ∷ ys) = alike-not (given px) most (held k) ys refl
+alike-alone px t most (given qx ∷ ys) = alike-not (given px) most (given qx) ys (rw t)
 
 pub opcodes-drop : (j : ℕ) (xs : List Origin) → opcodes j xs ≡ opcodes 0 (drop j xs)
 unfolding opcodes
@@ -120,7 +138,7 @@ pub length-encode : (os : List Origin) → length (encode os) ≡ 4 + length (op
 unfolding encode
 length-encode os = rw (length-append, length-digits) (omega arith)
 
-pub encode-most : (os : List Origin) → Writable 0 os → length (encode os) ≤ 4 + 17 * length os
+pub encode-most : (os : List Origin) → Writable 0 os → length (encode os) ≤ maxLength (length os)
 encode-most os w = omega (arith, length-encode os, opcodes-most os 0 0 w (omega arith))
 
 -- a difference has an origin for each block, and can be written

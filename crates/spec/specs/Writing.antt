@@ -97,6 +97,10 @@ pub data Writable : ℕ → List Origin → Type 0 where
 unfoldable pub encode : List Origin → List ℕ
 encode os = let body = opcodes 0 os in 0xE1 ∷ digits 8 3 (4 + length body) ++ body
 
+-- "Its length is at most 4 + 17 x blocks"
+abbrev pub maxLength : ℕ → ℕ
+maxLength n = 4 + 17 * n
+
 -- what became of block k: "A block equal to the old one", or a changed one
 unfoldable pub difference : List ℕ → List ℕ → ℕ → Origin
 difference old new k = if (same old new) (held k) (given new)

@@ -66,6 +66,9 @@ impl Size {
 // The map's entry of a settled block.
 pub const SETTLED: u16 = 65535;
 
+// The most blocks of a run in the writer's chunk. specs/Writing.antt has it as `maxRun`.
+pub const MAX_RUN: usize = 256;
+
 // What counting a map's unsettled entries answers.
 #[repr(C)]
 pub struct Count {

@@ -16,7 +16,7 @@ use Rattle.spec.specs.Maps.{entry, remap}
 use Rattle.spec.specs.Flags.{number, digits}
 use Rattle.spec.specs.Chunks.{State, start, accepted, resume, loop, finish, decode, verdict}
 use Rattle.spec.specs.Boards.{board, left, effect, read}
-use Rattle.spec.specs.Writing.{plain, opcodeFor, joins, alike, maxRun, opcodes, Writable, keeps, gives, encode, difference, differences}
+use Rattle.spec.specs.Writing.{plain, opcodeFor, joins, alike, maxRun, opcodes, Writable, keeps, gives, encode, maxLength, difference, differences}
 use Rattle.spec.proofs.Lists.{by-test, if-apply, length-from, getD-rule, map-congr, every-all, same-lists}
 use Rattle.spec.proofs.Parts.{part-of}
 use Rattle.spec.proofs.Limits.{allowed-size, area}
@@ -25,7 +25,7 @@ use Rattle.spec.proofs.Boards.{read-exact}
 use Rattle.spec.proofs.Loops.{unroll, unroll-end}
 use Rattle.spec.proofs.Digits.{length-digits}
 use Rattle.spec.proofs.Numbers.{number-digits}
-use Rattle.spec.proofs.Written.{alike-room, writable-first, writable-rest, opcode-some, length-encode, encode-most, length-differences, differences-writable}
+use Rattle.spec.proofs.Written.{alike-room, alike-alone, writable-first, writable-rest, opcode-some, length-encode, encode-most, length-differences, differences-writable}
 use Rattle.trust.specs.RoundTrip.{marked, ReadsBack}
 use Rattle.trust.proofs.Turns.{moved, Alone, run-turn}
 
@@ -53,15 +53,9 @@ run-origins : (x : Origin) (most : ℕ) (xs : List Origin) (k : ℕ) → Writabl
     → map (moved x) (from k (suc (alike x most xs))) ++ drop (alike x most xs) xs ≡ x ∷ xs
 run-origins x most xs k w = let e = moved-first w in let r = alike-origins x most xs (suc k) (writable-rest w) in λ i. e i ∷ r i
 
-alike-alone : (x : Origin) (most : ℕ) (ys : List Origin) → Alone x (suc (alike x most ys))
-alike-alone (held j) most ys = tt
-alike-alone (given px) most ys = by most ys
-  where
-    by : (most : ℕ) (ys : List Origin) → plain px ≡ false → suc (alike (given px) most ys) ≡ 1
-    by zero ys f = unfold alike in refl
-    by (suc most) [] f = unfold alike in refl
-    by (suc most) (held k ∷ ys) f = unfold alike if in refl
-    by (suc most) (given qx ∷ ys) f = unfold alike if in rw f
+stands-alone : (x : Origin) (most : ℕ) (ys : List Origin) → Alone x (suc (alike x most ys))
+stands-alone (held j) most ys = tt
+stands-alone (given px) most ys = λ t. ap suc (alike-alone px t most ys)
 
 finished : (n : ℕ) (s : List ℕ) (st : State) → n ≤ length (st .made) → length s ≤ st .at → finish n s st ≡ accepted (st .made)
 unfolding finish if
@@ -85,7 +79,7 @@ module _ (n : ℕ) (s : List ℕ) where
       let some = opcode-some x (suc m) in
       let len = simp length-append at (ap length e) in
       let k′ : length (st .made) ≡ k = omega arith in
-      let t = run-turn n s pre (opcodes m xs) st a x (suc m) (writable-first w) (alike-alone x (maxRun - 1) xs) (omega arith) (omega arith) e in
+      let t = run-turn n s pre (opcodes m xs) st a x (suc m) (writable-first w) (stands-alone x (maxRun - 1) xs) (omega arith) (omega arith) e in
       let os = map (moved x) (from (length (st .made)) (suc m)) in
       let st′ : State = record { at = length pre + length bytes; made = st .made ++ os; tables = t .tables } in
       let more : length (st .made ++ os) ≡ suc k + m = length-append (st .made) os ∙ simp (length-map, length-from) (omega arith) in
@@ -104,7 +98,7 @@ stated os small =
     ap (number 256) (part-of (0xE1 ∷ []) (digits 8 3 l) (opcodes 0 os) 1 3 refl refl (length-digits 8 3 l)) ∙ number-digits 8 3 l (omega arith) ∙ sym len
 
 -- the law of the definitions
-pub decode-encode : (os : List Origin) → Writable 0 os → 4 + 17 * length os < 2 ^ 24 → decode (length os) (encode os) ≡ accepted os
+pub decode-encode : (os : List Origin) → Writable 0 os → maxLength (length os) < 2 ^ 24 → decode (length os) (encode os) ≡ accepted os
 unfolding decode encode if
 decode-encode os w small =
     let len = length-encode os in

@@ -10,7 +10,7 @@ use Rattle.spec.specs.Sizes.{columns, blocks}
 use Rattle.spec.specs.Pictures.{blockAt}
 use Rattle.spec.specs.Maps.{settled}
 use Rattle.spec.specs.Boards.{board, left, read}
-use Rattle.spec.specs.Writing.{chunkFor}
+use Rattle.spec.specs.Writing.{maxLength, chunkFor}
 
 -- what the map then holds: "the written blocks are settled and every other entry is as it was"
 unfoldable pub marked : Size → List ℕ → List ℕ → List ℕ → List ℕ
@@ -20,4 +20,4 @@ marked z old new m = map (λ k. if (same (blockAt (columns z) old k) (blockAt (c
 -- and how long it can be: four bytes, and at most 17 for each block
 pub record ReadsBack (z : Size) (old new m : List ℕ) : Type 0 where
   pub reads : read z (chunkFor z old new) (board old m) ≡ left (answer ok (length (chunkFor z old new))) (board new (marked z old new m))
-  pub short : length (chunkFor z old new) ≤ 4 + 17 * blocks z
+  pub short : length (chunkFor z old new) ≤ maxLength (blocks z)

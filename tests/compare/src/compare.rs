@@ -1,29 +1,35 @@
-//! The same call to the library under test and to the second reader or walk, and what differs.
+//! The same call to the library under test and to the second reader, walk or writer, and what
+//! differs.
 
-use std::fmt::Debug;
+use std::fmt::{Debug, Display};
 
 use crate::feeds::FeedCase;
-use crate::generate::{Board, Case};
+use crate::generate::{Board, Case, SETTLED};
 use crate::library::{self, Answer, Count, Size};
-use crate::second::{self, Refusal, Step};
+use crate::pictures::WriteCase;
+use crate::second::{self, pixel_blocks, Refusal, Step};
 use crate::second_walk::{self, Walk};
+use crate::second_writer::{self, Chunk};
 
 /// One of the two that are compared.
-pub struct Reader {
+pub struct Codec {
     pub fresh_map: fn(Size, &mut [u16]) -> Answer,
     pub count: fn(Size, &mut [u16]) -> Count,
     pub read_chunk: fn(Size, &[u8], &mut [u8], &mut [u16]) -> Answer,
     pub walk_feed: fn(&[u8], &mut [u8], &mut [u16]) -> Answer,
+    /// Old picture, new picture, output: the pictures too, so that a change of them is found.
+    pub write_chunk: fn(Size, &mut [u8], &mut [u8], &mut [u8]) -> Answer,
 }
 
-pub const LIBRARY: Reader = Reader {
+pub const LIBRARY: Codec = Codec {
     fresh_map: library::fresh_map,
     count: library::count,
     read_chunk: library::read_chunk,
     walk_feed: library::walk_feed,
+    write_chunk: library::write_chunk,
 };
 
-pub const SECOND: Reader = Reader {
+pub const SECOND: Codec = Codec {
     fresh_map: |size, map| answer(&second::fresh_map(size.width, size.height, map), 0),
     count: |size, map| {
         let counted = second::count(size.width, size.height, map);
@@ -37,6 +43,10 @@ pub const SECOND: Reader = Reader {
         answer(&reading, chunk.len())
     },
     walk_feed: |feed, picture, map| walk_answer(&second_walk::walk(feed, picture, map)),
+    write_chunk: |size, old, new, output| {
+        let written = second_writer::write_chunk((size.width, size.height), old, new, output);
+        write_answer(&written)
+    },
 };
 
 /// 01: an accepted chunk's place is the length used; for fresh maps and counts it is 0.
@@ -51,6 +61,12 @@ fn answer<T>(reading: &Result<T, Refusal>, accepted_place: usize) -> Answer {
 fn walk_answer(walk: &Walk) -> Answer {
     let (number, place) = walk.number_and_place();
     Answer { number, place }
+}
+
+/// 01: for the writer's 0 the place is the length written.
+fn write_answer(written: &Result<Chunk, Refusal>) -> Answer {
+    let length = written.as_ref().map_or(0, |chunk| chunk.bytes.len());
+    answer(written, length)
 }
 
 /// What a call answered, and what it left in the buffers lent to it.
@@ -73,30 +89,65 @@ impl<A: Debug + PartialEq> Outcome<A> {
         }
     }
 
-    /// Both answers and where the buffers differ first; nothing if all is equal.
     pub fn differences(&self, other: &Self, names: [&str; 2]) -> Vec<String> {
-        let picture = self.picture.difference(&other.picture);
-        let map = self.map.difference(&other.map);
-        if self.answer == other.answer && picture.is_none() && map.is_none() {
-            return Vec::new();
-        }
-        let [name, other_name] = names;
-        let mut lines = vec![format!(
-            "{name} {:?}, {other_name} {:?}",
-            self.answer, other.answer
-        )];
-        if let Some((place, pixel, other_pixel)) = picture {
-            lines.push(format!(
-                "pixel {place}: {name} {pixel}, {other_name} {other_pixel}"
-            ));
-        }
-        if let Some((place, entry, other_entry)) = map {
-            lines.push(format!(
-                "map entry {place}: {name} {entry}, {other_name} {other_entry}"
-            ));
-        }
-        lines
+        let buffers = [
+            self.picture.difference(&other.picture, "pixel", names),
+            self.map.difference(&other.map, "map entry", names),
+        ];
+        differences([&self.answer, &other.answer], buffers, names)
     }
+}
+
+/// What a write answered, and what it left in the pictures and the output lent to it.
+pub struct Writing {
+    answer: Answer,
+    old: Lent<u8>,
+    new: Lent<u8>,
+    output: Lent<u8>,
+}
+
+impl Writing {
+    /// Calls with copies of the case's buffers.
+    pub fn of(
+        case: &WriteCase,
+        call: impl FnOnce(&mut [u8], &mut [u8], &mut [u8]) -> Answer,
+    ) -> Self {
+        let mut old = Lent::new(&case.board.picture, 0xA5);
+        let mut new = Lent::new(&case.new, 0xA5);
+        let mut output = Lent::new(&case.output, 0xA5);
+        let answer = call(old.contents(), new.contents(), output.contents());
+        Writing {
+            answer,
+            old,
+            new,
+            output,
+        }
+    }
+
+    pub fn differences(&self, other: &Self, names: [&str; 2]) -> Vec<String> {
+        let buffers = [
+            self.old.difference(&other.old, "old pixel", names),
+            self.new.difference(&other.new, "new pixel", names),
+            self.output.difference(&other.output, "output byte", names),
+        ];
+        differences([&self.answer, &other.answer], buffers, names)
+    }
+}
+
+/// Both answers and where the buffers differ first; nothing if all is equal.
+fn differences<A: Debug + PartialEq, const N: usize>(
+    [answer, other_answer]: [&A; 2],
+    buffers: [Option<String>; N],
+    [name, other_name]: [&str; 2],
+) -> Vec<String> {
+    if answer == other_answer && buffers.iter().all(Option::is_none) {
+        return Vec::new();
+    }
+    let answers = format!("{name} {answer:?}, {other_name} {other_answer:?}");
+    [answers]
+        .into_iter()
+        .chain(buffers.into_iter().flatten())
+        .collect()
 }
 
 /// A buffer to lend, with entries on each side that no call may touch.
@@ -104,7 +155,7 @@ struct Lent<T>(Vec<T>);
 
 const MARGIN: usize = 16;
 
-impl<T: Copy + PartialEq> Lent<T> {
+impl<T: Copy + Display + PartialEq> Lent<T> {
     fn new(contents: &[T], margin: T) -> Self {
         Lent([&[margin; MARGIN], contents, &[margin; MARGIN]].concat())
     }
@@ -115,15 +166,16 @@ impl<T: Copy + PartialEq> Lent<T> {
     }
 
     /// The first differing place, from 0 at the first lent entry, and what stands there in each.
-    fn difference(&self, other: &Self) -> Option<(isize, T, T)> {
+    fn difference(&self, other: &Self, what: &str, names: [&str; 2]) -> Option<String> {
         if self.0 == other.0 {
             return None;
         }
-        let place = self.0.iter().zip(&other.0).position(|(a, b)| a != b)?;
-        Some((
-            place as isize - MARGIN as isize,
-            self.0[place],
-            other.0[place],
+        let at = self.0.iter().zip(&other.0).position(|(a, b)| a != b)?;
+        let place = at as isize - MARGIN as isize;
+        let [name, other_name] = names;
+        Some(format!(
+            "{what} {place}: {name} {}, {other_name} {}",
+            self.0[at], other.0[at]
         ))
     }
 }
@@ -185,15 +237,78 @@ pub fn walk_feed(FeedCase { board, feed }: &FeedCase) -> FeedComparison {
     }
 }
 
+/// The differences between the two on one write, with the second writer's own chunk.
+pub struct WriteComparison {
+    pub differences: Vec<String>,
+    pub answer: Answer,
+    pub written: Result<Chunk, Refusal>,
+}
+
+pub fn write_chunk(case: &WriteCase) -> WriteComparison {
+    let size = case.board.size;
+    let ours = Writing::of(case, |old, new, output| {
+        (LIBRARY.write_chunk)(size, old, new, output)
+    });
+    let mut written = None;
+    let theirs = Writing::of(case, |old, new, output| {
+        let chunk = second_writer::write_chunk((size.width, size.height), old, new, output);
+        write_answer(written.insert(chunk))
+    });
+    let written = written.expect("the second writer was called");
+    let mut differences = ours.differences(&theirs, ["ours", "second writer's"]);
+    // Without a difference this is the chunk that both wrote.
+    if let (Ok(chunk), true) = (&written, differences.is_empty()) {
+        differences = read_back(case, &chunk.bytes);
+    }
+    WriteComparison {
+        differences,
+        answer: theirs.answer,
+        written,
+    }
+}
+
+/// Both readers over the old picture: they make the new one of it and settle exactly the changed
+/// blocks.
+fn read_back(case: &WriteCase, chunk: &[u8]) -> Vec<String> {
+    let size = case.board.size;
+    let [old, new] = [&case.board.picture, &case.new].map(|lent| pixel_blocks(size.width, lent));
+    let mut map = case.board.map.clone();
+    for (entry, (old, new)) in map.iter_mut().zip(old.iter().zip(&new)) {
+        if old != new {
+            *entry = SETTLED;
+        }
+    }
+    let read = Board {
+        size,
+        picture: case.new.clone(),
+        map,
+    };
+    let expected = Outcome::of(&read, |_, _| Answer {
+        number: 0,
+        place: chunk.len(),
+    });
+    let back = |codec: Codec, name| {
+        let found = Outcome::of(&case.board, |picture, map| {
+            (codec.read_chunk)(size, chunk, picture, map)
+        });
+        found.differences(&expected, [name, "should be"])
+    };
+    [
+        back(LIBRARY, "read back by ours"),
+        back(SECOND, "read back by the second reader"),
+    ]
+    .concat()
+}
+
 /// The differences in a fresh map and in a count, with the second reader's number for both.
 pub fn fresh_map_and_count(board: &Board) -> (Vec<String>, u8) {
     let size = board.size;
     let [ours, theirs] =
-        [LIBRARY, SECOND].map(|reader| Outcome::of(board, |_, map| (reader.fresh_map)(size, map)));
+        [LIBRARY, SECOND].map(|codec| Outcome::of(board, |_, map| (codec.fresh_map)(size, map)));
     let mut differences = ours.differences(&theirs, NAMES);
     let number = theirs.answer.number;
     let [ours, theirs] =
-        [LIBRARY, SECOND].map(|reader| Outcome::of(board, |_, map| (reader.count)(size, map)));
+        [LIBRARY, SECOND].map(|codec| Outcome::of(board, |_, map| (codec.count)(size, map)));
     differences.extend(ours.differences(&theirs, NAMES));
     (differences, number)
 }

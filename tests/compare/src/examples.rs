@@ -2,11 +2,9 @@
 
 use std::fmt::Debug;
 
-use crate::compare::{Outcome, Reader};
-use crate::generate::Board;
+use crate::compare::{Codec, Outcome};
+use crate::generate::{Board, SETTLED};
 use crate::library::{Answer, Count, Size};
-
-pub const SETTLED: u16 = 65_535;
 
 struct Example {
     number: usize,
@@ -54,29 +52,29 @@ pub fn lent_picture(pixels: usize) -> Vec<u8> {
     (0..pixels).map(|pixel| 100 + (pixel % 100) as u8).collect()
 }
 
+/// 01's example 1 as a chunk, and what its flags say: 012456 and 89A37B (hex), three bits a pixel.
 #[rustfmt::skip]
-const HALF_BYTES: &[u8] = &[
+pub const HALF_BYTES: &[u8] = &[
     0xE1, 0, 0, 0x13, 0xC0, 0, 1, 2, 3, 4, 5, 6, 7, 0x01, 0x23, 0x45, 0x67, 0x89, 0xAB,
 ];
+pub const HALF_BYTES_PIXELS: [u8; 16] = [0, 0, 2, 2, 2, 1, 2, 6, 4, 2, 3, 2, 1, 5, 7, 3];
 const TWO_FILLED: &[u8] = &[0xE1, 0, 0, 6, 0x61, 5];
-const LOWER_LEFT: &[u8] = &[0xE1, 0, 0, 9, 0x80, 3, 7, 0, 8];
+/// 01's example 6.
+pub const LOWER_LEFT: &[u8] = &[0xE1, 0, 0, 9, 0x80, 3, 7, 0, 8];
+pub const LOWER_LEFT_PIXELS: [u8; 16] = [3, 3, 3, 3, 3, 3, 3, 3, 3, 3, 3, 3, 7, 3, 3, 3];
 const SKIPPED_COPIED: &[u8] = &[0xE1, 0, 0, 6, 0x00, 0x20];
 const TWO_REPEATED: &[u8] = &[0xE1, 0, 0, 9, 0x60, 1, 0x60, 2, 0x40];
 
 fn accepted_examples() -> Vec<Example> {
-    // 012456 and 89A37B (hex), three bits a pixel.
-    let half_bytes = [0, 0, 2, 2, 2, 1, 2, 6, 4, 2, 3, 2, 1, 5, 7, 3];
-    let mut lower_left = [3; 16];
-    lower_left[12] = 7;
     let left_half_twice: Vec<u8> = (0..32)
         .map(|pixel| 100 + pixel / 8 * 8 + pixel % 4)
         .collect();
     let one_two_one_two = [1, 1, 1, 1, 2, 2, 2, 2].repeat(8);
     let settled = [SETTLED; 4];
     vec![
-        accepted(1, (4, 4), HALF_BYTES, &half_bytes, &settled[..1]),
+        accepted(1, (4, 4), HALF_BYTES, &HALF_BYTES_PIXELS, &settled[..1]),
         accepted(2, (8, 4), TWO_FILLED, &[5; 32], &settled[..2]),
-        accepted(6, (4, 4), LOWER_LEFT, &lower_left, &settled[..1]),
+        accepted(6, (4, 4), LOWER_LEFT, &LOWER_LEFT_PIXELS, &settled[..1]),
         accepted(11, (8, 4), SKIPPED_COPIED, &left_half_twice, &[0, 0]),
         accepted(15, (16, 4), TWO_REPEATED, &one_two_one_two, &settled),
     ]
@@ -101,17 +99,17 @@ fn refused_examples() -> Vec<Example> {
     ]
 }
 
-pub fn check(reader: &Reader) -> Result<(), String> {
+pub fn check(codec: &Codec) -> Result<(), String> {
     for example in accepted_examples().iter().chain(&refused_examples()) {
-        check_chunk(reader, example)?;
+        check_chunk(codec, example)?;
     }
-    check_maps(reader, (320, 200), 4_000, 0)?;
+    check_maps(codec, (320, 200), 4_000, 0)?;
     for (width, height) in [(324, 4), (4, 204), (6, 4), (0, 4)] {
-        check_maps(reader, (width, height), width * height / 16, 1)?;
+        check_maps(codec, (width, height), width * height / 16, 1)?;
     }
-    check_maps(reader, (8, 4), 3, 2)?;
+    check_maps(codec, (8, 4), 3, 2)?;
     check_count(
-        reader,
+        codec,
         &map_board((16, 4), vec![SETTLED, 0, 7, SETTLED]),
         0,
         2,
@@ -141,14 +139,14 @@ pub fn left_board(lent: &Board, leaves: &Option<(Vec<u8>, Vec<u16>)>) -> Board {
     }
 }
 
-fn check_chunk(reader: &Reader, example: &Example) -> Result<(), String> {
+fn check_chunk(codec: &Codec, example: &Example) -> Result<(), String> {
     let (width, height) = example.size;
     let size = Size { width, height };
     let lent = lent_board(size);
     let left = left_board(&lent, &example.leaves);
     let (number, place) = example.answer;
     let found = Outcome::of(&lent, |picture, map| {
-        (reader.read_chunk)(size, example.chunk, picture, map)
+        (codec.read_chunk)(size, example.chunk, picture, map)
     });
     let expected = Outcome::of(&left, |_, _| Answer { number, place });
     equal(&found, &expected, || format!("example {}", example.number))
@@ -156,7 +154,7 @@ fn check_chunk(reader: &Reader, example: &Example) -> Result<(), String> {
 
 /// A fresh map of that size and its count, each with the given number.
 fn check_maps(
-    reader: &Reader,
+    codec: &Codec,
     size: (usize, usize),
     entries: usize,
     number: u8,
@@ -168,15 +166,15 @@ fn check_maps(
     } else {
         map_board(size, vec![SETTLED; entries])
     };
-    let found = Outcome::of(&lent, |_, map| (reader.fresh_map)(lent.size, map));
+    let found = Outcome::of(&lent, |_, map| (codec.fresh_map)(lent.size, map));
     let expected = Outcome::of(&left, |_, _| Answer { number, place: 0 });
     equal(&found, &expected, || format!("fresh map of {size:?}"))?;
     let unsettled = if number == 0 { entries } else { 0 };
-    check_count(reader, &left, number, unsettled)
+    check_count(codec, &left, number, unsettled)
 }
 
-fn check_count(reader: &Reader, board: &Board, number: u8, unsettled: usize) -> Result<(), String> {
-    let found = Outcome::of(board, |_, map| (reader.count)(board.size, map));
+fn check_count(codec: &Codec, board: &Board, number: u8, unsettled: usize) -> Result<(), String> {
+    let found = Outcome::of(board, |_, map| (codec.count)(board.size, map));
     let answer = Answer { number, place: 0 };
     let expected = Outcome::of(board, |_, _| Count { answer, unsettled });
     equal(&found, &expected, || format!("count of {:?}", board.size))
@@ -187,7 +185,12 @@ pub fn equal<A: Debug + PartialEq>(
     expected: &Outcome<A>,
     name: impl FnOnce() -> String,
 ) -> Result<(), String> {
-    let differences = found.differences(expected, ["it has", "01 says"]);
+    without(found.differences(expected, FOUND_AND_SAID), name)
+}
+
+pub const FOUND_AND_SAID: [&str; 2] = ["it has", "01 says"];
+
+pub fn without(differences: Vec<String>, name: impl FnOnce() -> String) -> Result<(), String> {
     if differences.is_empty() {
         return Ok(());
     }

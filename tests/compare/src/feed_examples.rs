@@ -1,9 +1,9 @@
 //! Feeds made by hand, with what 01 says of them; the first is the one whose listing 01 gives.
 //! All are walked over a fresh map, and all but one over an 8x4 board.
 
-use crate::compare::{Outcome, Reader};
-use crate::examples::{equal, left_board, lent_board, lent_picture, SETTLED};
-use crate::generate::FULL;
+use crate::compare::{Codec, Outcome};
+use crate::examples::{equal, left_board, lent_board, lent_picture};
+use crate::generate::{FULL, SETTLED};
 use crate::library::{Answer, Size};
 
 const LENT: Size = Size {
@@ -140,7 +140,7 @@ fn cut_chunks() -> Vec<Example> {
     ]
 }
 
-pub fn check(reader: &Reader) -> Result<(), String> {
+pub fn check(codec: &Codec) -> Result<(), String> {
     let groups = [
         whole_feeds(),
         failing_numbers(),
@@ -150,15 +150,15 @@ pub fn check(reader: &Reader) -> Result<(), String> {
     groups
         .iter()
         .flatten()
-        .try_for_each(|example| check_feed(reader, example))
+        .try_for_each(|example| check_feed(codec, example))
 }
 
-fn check_feed(reader: &Reader, example: &Example) -> Result<(), String> {
+fn check_feed(codec: &Codec, example: &Example) -> Result<(), String> {
     let lent = lent_board(example.size);
     let left = left_board(&lent, &example.leaves);
     let (number, place) = example.answer;
     let found = Outcome::of(&lent, |picture, map| {
-        (reader.walk_feed)(&example.feed, picture, map)
+        (codec.walk_feed)(&example.feed, picture, map)
     });
     let expected = Outcome::of(&left, |_, _| Answer { number, place });
     equal(&found, &expected, || format!("feed {:02X?}", example.feed))

@@ -4,16 +4,7 @@ use crate::compare::FeedComparison;
 use crate::feeds::FeedCase;
 use crate::library::Size;
 use crate::second_walk::{self, ChunkRead, Fault, Number, Stop};
-use crate::tally::{named, Counts, Thing, Things};
-
-/// 01, "Numbered outcomes": those that a walk can have.
-const ENDS: [(u8, &str); 5] = [
-    (0, "accepted"),
-    (1, "width or height not allowed"),
-    (2, "a lent picture or map is not of the exact length"),
-    (12, "feed number badly formed"),
-    (13, "feed ends inside a number or a chunk"),
-];
+use crate::tally::{named, Counts, Numbers, Thing, Things};
 
 /// In the order of `Number` and of `Fault`.
 const NUMBERS: [&str; 3] = [
@@ -37,7 +28,7 @@ const GROUPS: [(usize, &str); 4] = [
 
 #[derive(Default)]
 pub struct FeedTally {
-    ends: [usize; 5],
+    ends: Numbers,
     /// 12, by the number and then by its fault.
     bad_numbers: [[usize; 3]; 3],
     /// 13, by the number.
@@ -53,8 +44,7 @@ pub struct FeedTally {
 impl FeedTally {
     pub fn add(&mut self, case: &FeedCase, compared: &FeedComparison) {
         let (number, _) = compared.walk.number_and_place();
-        let end = ENDS.iter().position(|(end, _)| *end == number);
-        self.ends[end.expect("a walk has no other number")] += 1;
+        self.ends.add(number);
         match compared.walk.end {
             Err(Stop::BadNumber(number, fault, _)) => {
                 self.bad_numbers[number as usize][fault as usize] += 1;
@@ -73,11 +63,7 @@ impl FeedTally {
     }
 
     pub fn end_counts(&self) -> Counts {
-        let end = |which: usize| {
-            let (number, meaning) = ENDS[which];
-            format!("walks that got {number}: {meaning}")
-        };
-        named(self.ends, end)
+        self.ends.counts("walks that got", [0, 1, 2, 12, 13])
     }
 
     pub fn number_counts(&self) -> Counts {

@@ -4,7 +4,7 @@
 use crate::library::Size;
 use crate::random::Random;
 
-const SETTLED: u16 = 65_535;
+pub const SETTLED: u16 = 65_535;
 /// The greatest size.
 pub const FULL: Size = Size {
     width: 320,
@@ -114,7 +114,7 @@ pub fn lent_board(random: &mut Random, size: Size, pixels: usize, entries: usize
     }
 }
 
-fn any_map(random: &mut Random, entries: usize) -> Vec<u16> {
+pub fn any_map(random: &mut Random, entries: usize) -> Vec<u16> {
     let kind = random.below(8);
     let mut entry = |place: usize| match kind {
         0 | 1 => place as u16,
@@ -132,7 +132,7 @@ fn any_map(random: &mut Random, entries: usize) -> Vec<u16> {
 
 /// A size that is not allowed, with buffers as if it were: of the product, where that is small
 /// or wraps to something small, or else of the size it was made from.
-fn board_of_wrong_size(random: &mut Random, right: Size) -> Board {
+pub fn board_of_wrong_size(random: &mut Random, right: Size) -> Board {
     let mut size = right;
     match random.below(4) {
         0 => size.width = wrong_extent(random, right.width, 320),
@@ -184,7 +184,7 @@ pub fn board_of_wrong_lengths(random: &mut Random, size: Size) -> Board {
     lent_board(random, size, lent_pixels, lent_entries)
 }
 
-fn wrong_length(random: &mut Random, right: usize, other: usize) -> usize {
+pub fn wrong_length(random: &mut Random, right: usize, other: usize) -> usize {
     match random.below(6) {
         0 => 0,
         1 => right - 1,

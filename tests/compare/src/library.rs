@@ -41,6 +41,15 @@ extern "C" {
         map: *mut u16,
         map_len: usize,
     ) -> Answer;
+    fn seatboard_write_chunk(
+        size: Size,
+        old: *const u8,
+        old_len: usize,
+        new: *const u8,
+        new_len: usize,
+        output: *mut u8,
+        output_len: usize,
+    ) -> Answer;
 }
 
 pub fn fresh_map(size: Size, map: &mut [u16]) -> Answer {
@@ -82,6 +91,23 @@ pub fn walk_feed(feed: &[u8], picture: &mut [u8], map: &mut [u16]) -> Answer {
             picture.len(),
             map.as_mut_ptr(),
             map.len(),
+        )
+    }
+}
+
+/// The pictures are lent for writing for the same reason as the map to be counted.
+pub fn write_chunk(size: Size, old: &mut [u8], new: &mut [u8], output: &mut [u8]) -> Answer {
+    // SAFETY: each pointer and length are those of one slice lent for the call, and the three
+    // slices do not overlap.
+    unsafe {
+        seatboard_write_chunk(
+            size,
+            old.as_mut_ptr(),
+            old.len(),
+            new.as_mut_ptr(),
+            new.len(),
+            output.as_mut_ptr(),
+            output.len(),
         )
     }
 }

@@ -1,13 +1,15 @@
-//! Compares the library under test with an independent second reader of SMC chunks and a second
-//! walk of the house feed, and the board program with a second listing.
+//! Compares the library under test with an independent second reader and writer of SMC chunks and
+//! a second walk of the house feed, and the board program with a second listing.
 //!
 //! The library is libseatboard.a, called by its C functions (library.rs). The second reader
-//! (second.rs), walk (second_walk.rs) and listing (second_listing.rs) were written from the papers
-//! 01 and 003 alone. generate.rs makes boards and chunks, feeds.rs feeds of them, right and wrong;
-//! compare.rs gives each to both and compares answer, picture and map whole; tally.rs and
-//! feed_tally.rs count what they had in them; examples.rs and feed_examples.rs try both on paper
-//! 01's examples and on feeds made by hand. program.rs runs the board program, on the cases of
-//! program_cases.rs and on random feeds (listings.rs).
+//! (second.rs), writer (second_writer.rs), walk (second_walk.rs) and listing (second_listing.rs)
+//! were written from the papers 01 and 003 alone. generate.rs makes boards and chunks, feeds.rs
+//! feeds of them, pictures.rs pairs of pictures to write, right and wrong; compare.rs gives each to
+//! both and compares the answer and all that was lent; tally.rs, feed_tally.rs and write_tally.rs
+//! count what they had in them; examples.rs, feed_examples.rs and write_examples.rs try both on
+//! paper 01's examples and on others made by hand. Each chunk written is read back by both readers.
+//! program.rs runs the board program, on the cases of program_cases.rs and on random feeds
+//! (listings.rs).
 //!
 //! From the repository's root, with the library in target/staticlib or in $SEATBOARD_LIB and the
 //! board program as target/bin/board or $SEATBOARD_BOARD:
@@ -15,12 +17,12 @@
 //! ```text
 //! cargo run --quiet --release --locked --offline --manifest-path tests/compare/Cargo.toml \
 //!     --target-dir target/compare -- [--seed N] [--chunks N] [--feeds N]
-//!     [--case N | --feed N | --listing N]
+//!     [--case N | --feed N | --write N | --listing N]
 //! ```
 //!
-//! `--case N`, `--feed N` and `--listing N` replay one chunk, feed or listing of that seed and
-//! print all of it. Each check prints `ok NAME` or `FAILED NAME: why`; the last line is
-//! `N passed, M failed`.
+//! `--case N`, `--feed N`, `--write N` and `--listing N` replay one chunk, feed, write or listing
+//! of that seed and print all of it. Each check prints `ok NAME` or `FAILED NAME: why`; the last
+//! line is `N passed, M failed`.
 
 mod compare;
 mod examples;
@@ -30,6 +32,7 @@ mod feeds;
 mod generate;
 mod library;
 mod listings;
+mod pictures;
 mod program;
 mod program_cases;
 mod random;
@@ -38,17 +41,25 @@ mod report;
 mod second;
 mod second_listing;
 mod second_walk;
+mod second_writer;
 mod tally;
+mod write_examples;
+mod write_tally;
 
 use std::process::ExitCode;
 
 use compare::{LIBRARY, SECOND};
 use feed_tally::FeedTally;
-use replay::{board_in_short, case_in_short, feed_in_short, Replay};
-use report::{Differing, Report};
-use tally::{number_counts, Tally, Things};
+use feeds::FeedCase;
+use generate::{Board, Case};
+use pictures::WriteCase;
+use replay::{board_in_short, case_in_short, feed_in_short, write_in_short, Replay};
+use report::{compare_each, Report};
+use tally::{Numbers, Tally, Things};
+use write_tally::WriteTally;
 
 const BOARDS: u64 = 20_000;
+const WRITES: u64 = 24_000;
 /// How often a thing must occur for the comparison to count as having tried it.
 const ENOUGH: usize = 100;
 /// The same for the feeds that the board program is run on, which are fewer.
@@ -65,7 +76,9 @@ fn main() -> ExitCode {
     let options = match options() {
         Ok(options) => options,
         Err(why) => {
-            eprintln!("{why}; known are --seed, --chunks, --feeds, --case, --feed and --listing");
+            eprintln!(
+                "{why}; known are --seed, --chunks, --feeds, --case, --feed, --write and --listing"
+            );
             return ExitCode::from(2);
         }
     };
@@ -79,12 +92,13 @@ fn main() -> ExitCode {
         ..
     } = options;
     println!(
-        "seed {seed}, {chunks} chunks, {BOARDS} maps, {feeds} feeds, {} listings",
+        "seed {seed}, {chunks} chunks, {BOARDS} maps, {feeds} feeds, {WRITES} writes, {} listings",
         listings::FEEDS
     );
     let mut report = Report::default();
     check_reading(&options, &mut report);
     check_walks(&options, &mut report);
+    check_writes(seed, &mut report);
     check_program(seed, &mut report);
     println!("{} passed, {} failed", report.passed, report.failed);
     if report.failed == 0 {
@@ -99,22 +113,28 @@ fn check_reading(options: &Options, report: &mut Report) {
     report.check("second reader: 01's examples", examples::check(&SECOND));
     report.check("library: 01's examples", examples::check(&LIBRARY));
 
+    let Options { seed, chunks, .. } = *options;
     let mut tally = Tally::default();
-    report.check("chunks compared", compare_chunks(options, &mut tally));
-    report.check("long chunks compared", compare_long_chunks(options.seed));
-    report.check_counts("every number", ENOUGH, number_counts(&tally.numbers));
+    let cases = (0..chunks).map(|number| generate::case(seed, number));
+    let compared = compare_chunks(&format!("seed {seed}, case"), cases, &mut tally);
+    report.check("chunks compared", compared);
+    // Nothing is asked of what the few long ones have in them.
+    let name = format!("seed {seed}, long chunk");
+    let compared = compare_chunks(&name, generate::long_cases(seed), &mut Tally::default());
+    report.check("long chunks compared", compared);
+    report.check_counts("every number", ENOUGH, tally.number_counts());
     report.check_counts("every opcode", ENOUGH, tally.opcode_counts());
     report.check_counts("every table wrapped", ENOUGH, tally.wrap_counts());
     report.check_counts("longest runs", ENOUGH, tally.longest_run_counts());
     report.check_counts("copies", ENOUGH, tally.copy_counts());
 
-    let mut numbers = [0; 3];
-    let compared = compare_maps(options.seed, &mut numbers);
+    let mut numbers = Numbers::default();
+    let compared = compare_maps(seed, &mut numbers);
     report.check("fresh maps and counts compared", compared);
     report.check_counts(
         "fresh maps and counts: every number",
         ENOUGH,
-        number_counts(&numbers),
+        numbers.counts("number", 0..=2),
     );
 }
 
@@ -124,17 +144,45 @@ fn check_walks(options: &Options, report: &mut Report) {
     let examples = feed_examples::check(&LIBRARY);
     report.check("library: feeds made by hand", examples);
 
+    let Options { seed, feeds, .. } = *options;
     let mut tally = FeedTally::default();
-    report.check("feeds compared", compare_feeds(options, &mut tally));
+    let cases = (0..feeds).map(|number| feeds::case(seed, number));
+    let compared = compare_feeds(&format!("seed {seed}, feed"), cases, &mut tally);
+    report.check("feeds compared", compared);
     report.check_counts("walks: every number", ENOUGH, tally.end_counts());
     report.check_counts("walks: 12 and 13", ENOUGH, tally.number_counts());
     report.check_counts("walks: orders", ENOUGH, tally.order_counts());
     report.check_counts("walks: chunks", ENOUGH, tally.chunk_counts());
 
     let mut tally = FeedTally::default();
-    let compared = compare_long_feeds(options.seed, &mut tally);
+    let cases = feeds::long_cases(seed);
+    let compared = compare_feeds(&format!("seed {seed}, long feed"), cases, &mut tally);
     report.check("long feeds compared", compared);
     report.check_counts("long feeds: lengths", 1, tally.group_counts());
+}
+
+fn check_writes(seed: u64, report: &mut Report) {
+    let examples = write_examples::check(&SECOND);
+    report.check("second writer: chunks written out by hand", examples);
+    let examples = write_examples::check(&LIBRARY);
+    report.check("library: chunks written out by hand", examples);
+
+    let mut tally = WriteTally::default();
+    let cases = (0..WRITES).map(|number| pictures::case(seed, number));
+    let compared = compare_writes(&format!("seed {seed}, write"), cases, &mut tally);
+    report.check("writes compared", compared);
+    report.check_counts("writes: every number", ENOUGH, tally.number_counts());
+    report.check_counts("writes: orders", ENOUGH, tally.order_counts());
+    report.check_counts("writes: outputs", ENOUGH, tally.output_counts());
+    report.check_counts("writes: runs", ENOUGH, tally.run_counts());
+    report.check_counts("writes: colours", ENOUGH, tally.colour_counts());
+    report.check_counts("writes: pictures", ENOUGH, tally.picture_counts());
+
+    let mut tally = WriteTally::default();
+    let cases = pictures::long_cases(seed);
+    let compared = compare_writes(&format!("seed {seed}, long write"), cases, &mut tally);
+    report.check("long writes compared", compared);
+    report.check_counts("long writes", 1, tally.long_counts());
 }
 
 fn check_program(seed: u64, report: &mut Report) {
@@ -163,6 +211,7 @@ fn options() -> Result<Options, String> {
             "--feeds" => options.feeds = value,
             "--case" => options.replay = Some(Replay::Case(value)),
             "--feed" => options.replay = Some(Replay::Feed(value)),
+            "--write" => options.replay = Some(Replay::Write(value)),
             "--listing" => options.replay = Some(Replay::Listing(value)),
             _ => return Err(format!("{name} is not known")),
         }
@@ -179,63 +228,52 @@ fn half_bytes() -> Result<(), String> {
     Err(format!("{numbers:X?}"))
 }
 
-fn compare_chunks(options: &Options, tally: &mut Tally) -> Result<(), String> {
-    let seed = options.seed;
-    let mut differing = Differing::default();
-    for number in 0..options.chunks {
-        let case = generate::case(seed, number);
-        let compared = compare::read_chunk(&case);
-        tally.add(&case, &compared);
-        let shown = || format!("seed {seed}, case {number}: {}", case_in_short(&case));
-        differing.add(&compared.differences, shown);
-    }
-    differing.result(options.chunks)
-}
-
-fn compare_long_chunks(seed: u64) -> Result<(), String> {
-    let mut differing = Differing::default();
-    let cases = generate::long_cases(seed);
-    for case in &cases {
+fn compare_chunks(
+    name: &str,
+    cases: impl IntoIterator<Item = Case>,
+    tally: &mut Tally,
+) -> Result<(), String> {
+    let differences = |case: &Case| {
         let compared = compare::read_chunk(case);
-        let shown = || format!("seed {seed}, long chunk: {}", case_in_short(case));
-        differing.add(&compared.differences, shown);
-    }
-    differing.result(cases.len() as u64)
+        tally.add(case, &compared);
+        compared.differences
+    };
+    compare_each(name, cases, differences, case_in_short)
 }
 
-fn compare_maps(seed: u64, numbers: &mut [usize; 3]) -> Result<(), String> {
-    let mut differing = Differing::default();
-    for number in 0..BOARDS {
-        let board = generate::board(seed, number);
-        let (differences, answered) = compare::fresh_map_and_count(&board);
-        numbers[usize::from(answered)] += 1;
-        let shown = || format!("seed {seed}, board {number}: {}", board_in_short(&board));
-        differing.add(&differences, shown);
-    }
-    differing.result(BOARDS)
+fn compare_maps(seed: u64, numbers: &mut Numbers) -> Result<(), String> {
+    let boards = (0..BOARDS).map(|number| generate::board(seed, number));
+    let differences = |board: &Board| {
+        let (differences, answered) = compare::fresh_map_and_count(board);
+        numbers.add(answered);
+        differences
+    };
+    let name = format!("seed {seed}, board");
+    compare_each(&name, boards, differences, board_in_short)
 }
 
-fn compare_feeds(options: &Options, tally: &mut FeedTally) -> Result<(), String> {
-    let seed = options.seed;
-    let mut differing = Differing::default();
-    for number in 0..options.feeds {
-        let case = feeds::case(seed, number);
-        let compared = compare::walk_feed(&case);
-        tally.add(&case, &compared);
-        let shown = || format!("seed {seed}, feed {number}: {}", feed_in_short(&case));
-        differing.add(&compared.differences, shown);
-    }
-    differing.result(options.feeds)
-}
-
-fn compare_long_feeds(seed: u64, tally: &mut FeedTally) -> Result<(), String> {
-    let mut differing = Differing::default();
-    let cases = feeds::long_cases(seed);
-    for case in &cases {
+fn compare_feeds(
+    name: &str,
+    cases: impl IntoIterator<Item = FeedCase>,
+    tally: &mut FeedTally,
+) -> Result<(), String> {
+    let differences = |case: &FeedCase| {
         let compared = compare::walk_feed(case);
         tally.add(case, &compared);
-        let shown = || format!("seed {seed}, long feed: {}", feed_in_short(case));
-        differing.add(&compared.differences, shown);
-    }
-    differing.result(cases.len() as u64)
+        compared.differences
+    };
+    compare_each(name, cases, differences, feed_in_short)
+}
+
+fn compare_writes(
+    name: &str,
+    cases: impl IntoIterator<Item = WriteCase>,
+    tally: &mut WriteTally,
+) -> Result<(), String> {
+    let differences = |case: &WriteCase| {
+        let compared = compare::write_chunk(case);
+        tally.add(case, &compared);
+        compared.differences
+    };
+    compare_each(name, cases, differences, write_in_short)
 }

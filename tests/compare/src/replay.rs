@@ -1,4 +1,4 @@
-//! One chunk, feed or listing of a run again, with all of it printed.
+//! One chunk, feed, write or listing of a run again, with all of it printed.
 
 use std::process::ExitCode;
 
@@ -6,6 +6,7 @@ use crate::compare;
 use crate::feeds::{self, FeedCase};
 use crate::generate::{self, Board, Case};
 use crate::library::Size;
+use crate::pictures::{self, WriteCase};
 use crate::program::{self, Handed};
 use crate::second_listing;
 
@@ -13,6 +14,7 @@ use crate::second_listing;
 pub enum Replay {
     Case(u64),
     Feed(u64),
+    Write(u64),
     Listing(u64),
 }
 
@@ -21,6 +23,7 @@ impl Replay {
         let differences = match self {
             Replay::Case(number) => chunk(seed, number),
             Replay::Feed(number) => feed(seed, number),
+            Replay::Write(number) => write(seed, number),
             Replay::Listing(number) => listing(seed, number),
         };
         for difference in &differences {
@@ -52,6 +55,19 @@ fn feed(seed: u64, number: u64) -> Vec<String> {
         println!("second walk's {chunk:?}");
     }
     println!("second walk's end {:?}", compared.walk.end);
+    compared.differences
+}
+
+fn write(seed: u64, number: u64) -> Vec<String> {
+    let case = pictures::case(seed, number);
+    print_board(&format!("seed {seed}, write {number}"), &case.board);
+    println!("new picture {:?}", case.new);
+    println!("output {:02X?}", case.output);
+    let compared = compare::write_chunk(&case);
+    if let Ok(chunk) = &compared.written {
+        println!("second writer's chunk {:02X?}", chunk.bytes);
+    }
+    println!("second writer's {:?}", compared.answer);
     compared.differences
 }
 
@@ -88,6 +104,14 @@ pub fn case_in_short(Case { board, chunk }: &Case) -> String {
 
 pub fn feed_in_short(FeedCase { board, feed }: &FeedCase) -> String {
     format!("{}, feed {}", board_in_short(board), bytes_in_short(feed))
+}
+
+pub fn write_in_short(WriteCase { board, new, output }: &WriteCase) -> String {
+    let (pixels, bytes) = (new.len(), output.len());
+    format!(
+        "{}, {pixels} new pixels, output of {bytes} bytes",
+        board_in_short(board)
+    )
 }
 
 fn bytes_in_short(bytes: &[u8]) -> String {

@@ -69,3 +69,20 @@ impl Differing {
         }
     }
 }
+
+/// Compares case after case; one that differs is shown in short, with its number.
+pub fn compare_each<C>(
+    name: &str,
+    cases: impl IntoIterator<Item = C>,
+    mut differences: impl FnMut(&C) -> Vec<String>,
+    in_short: impl Fn(&C) -> String,
+) -> Result<(), String> {
+    let mut differing = Differing::default();
+    let mut compared = 0;
+    for case in cases {
+        let shown = || format!("{name} {compared}: {}", in_short(&case));
+        differing.add(&differences(&case), shown);
+        compared += 1;
+    }
+    differing.result(compared)
+}

@@ -8,7 +8,8 @@
 /// 01, "Picture, blocks, map": this map entry means settled.
 const SETTLED: u16 = 65_535;
 
-/// 01, "Numbered outcomes", 1 to 11; those found in the opcodes carry their place.
+/// 01, "Numbered outcomes", 1 to 11 and 14; those found in the opcodes carry their place, and 14
+/// the length of the chunk for which there is no room.
 #[derive(Clone, Copy, Debug)]
 pub enum Refusal {
     SizeNotAllowed,
@@ -22,6 +23,7 @@ pub enum Refusal {
     PastLastBlock(usize),
     UnfilledEntry(usize),
     BytesFollow(usize),
+    OutputTooShort(usize),
 }
 
 impl Refusal {
@@ -38,6 +40,7 @@ impl Refusal {
             Refusal::PastLastBlock(place) => (9, place),
             Refusal::UnfilledEntry(place) => (10, place),
             Refusal::BytesFollow(place) => (11, place),
+            Refusal::OutputTooShort(_) => (14, 0),
         }
     }
 }
@@ -113,11 +116,17 @@ pub fn check_lent(
     picture: &[u8],
     map: &[u16],
 ) -> Result<(), Refusal> {
-    check_size(width, height)?;
-    if picture.len() != width * height {
-        return Err(Refusal::LentLength);
-    }
+    check_picture(width, height, picture)?;
     check_map(width, height, map)
+}
+
+pub fn check_picture(width: usize, height: usize, picture: &[u8]) -> Result<(), Refusal> {
+    check_size(width, height)?;
+    if picture.len() == width * height {
+        Ok(())
+    } else {
+        Err(Refusal::LentLength)
+    }
 }
 
 pub fn check_size(width: usize, height: usize) -> Result<(), Refusal> {
@@ -335,23 +344,26 @@ struct Block {
 }
 
 /// 01: blocks are numbered left to right, then down; 003: pixels within one row by row.
-fn cut_into_blocks(width: usize, picture: &[u8], map: &[u16]) -> Vec<Block> {
-    let mut blocks: Vec<Block> = Vec::with_capacity(map.len());
-    blocks.extend(map.iter().map(|&entry| Block {
-        pixels: [0; 16],
-        entry,
-    }));
+pub fn pixel_blocks(width: usize, picture: &[u8]) -> Vec<[u8; 16]> {
+    let mut blocks = vec![[0; 16]; picture.len() / 16];
     let lines = picture
         .chunks_exact(4 * width)
         .zip(blocks.chunks_exact_mut(width / 4));
     for (pixels, line) in lines {
         for (y, row) in pixels.chunks_exact(width).enumerate() {
             for (block, four) in line.iter_mut().zip(row.chunks_exact(4)) {
-                block.pixels[4 * y..4 * y + 4].copy_from_slice(four);
+                block[4 * y..4 * y + 4].copy_from_slice(four);
             }
         }
     }
     blocks
+}
+
+fn cut_into_blocks(width: usize, picture: &[u8], map: &[u16]) -> Vec<Block> {
+    let blocks = pixel_blocks(width, picture).into_iter().zip(map);
+    blocks
+        .map(|(pixels, &entry)| Block { pixels, entry })
+        .collect()
 }
 
 fn put_blocks_back(blocks: &[Block], width: usize, picture: &mut [u8], map: &mut [u16]) {

@@ -4,8 +4,8 @@ use crate::compare::Comparison;
 use crate::generate::Case;
 use crate::second::{Command, Step};
 
-/// 01, "Numbered outcomes": those that reading a chunk can have.
-const MEANINGS: [&str; 12] = [
+/// 01, "Numbered outcomes".
+const MEANINGS: [&str; 15] = [
     "accepted",
     "width or height not allowed",
     "a lent picture or map is not of the exact length",
@@ -18,7 +18,29 @@ const MEANINGS: [&str; 12] = [
     "opcode runs past the last block",
     "entry not filled in this chunk",
     "bytes follow the last block",
+    "feed number badly formed",
+    "feed ends inside a number or a chunk",
+    "output too short",
 ];
+
+/// How many calls got each number.
+#[derive(Default)]
+pub struct Numbers([usize; 15]);
+
+impl Numbers {
+    pub fn add(&mut self, number: u8) {
+        self.0[usize::from(number)] += 1;
+    }
+
+    /// For the numbers that such a call can have.
+    pub fn counts(&self, calls: &str, possible: impl IntoIterator<Item = usize>) -> Counts {
+        let count = |number: usize| {
+            let meaning = MEANINGS[number];
+            (format!("{calls} {number}: {meaning}"), self.0[number])
+        };
+        possible.into_iter().map(count).collect()
+    }
+}
 
 const TABLES: [&str; 3] = ["pair", "quad", "octet"];
 
@@ -27,8 +49,7 @@ const LONGEST_RUNS: [(u8, usize); 4] = [(0x1, 256), (0x3, 256), (0x5, 512), (0x7
 
 #[derive(Default)]
 pub struct Tally {
-    /// Cases that got each number.
-    pub numbers: [usize; 12],
+    numbers: Numbers,
     /// Accepted chunks that used each opcode, 0 to E.
     opcodes: [usize; 15],
     /// Accepted chunks that stored past entry 255 of each table.
@@ -46,7 +67,7 @@ pub struct Tally {
 impl Tally {
     /// A refused chunk has no steps and so adds to nothing but the numbers.
     pub fn add(&mut self, Case { board, chunk }: &Case, compared: &Comparison) {
-        self.numbers[usize::from(compared.answer.number)] += 1;
+        self.numbers.add(compared.answer.number);
         self.add_opcodes(chunk, &compared.steps);
         self.add_tables(chunk, &compared.steps);
         self.add_copies(board.size.width / 4, &compared.steps);
@@ -106,6 +127,10 @@ impl Tally {
         }
     }
 
+    pub fn number_counts(&self) -> Counts {
+        self.numbers.counts("number", 0..=11)
+    }
+
     pub fn opcode_counts(&self) -> Counts {
         let name = |upper| format!("accepted chunks with opcode {upper:X}");
         named(self.opcodes, name)
@@ -151,12 +176,6 @@ impl Tally {
 
 /// Things that occurred, and how often.
 pub type Counts = Vec<(String, usize)>;
-
-pub fn number_counts<const N: usize>(times: &[usize; N]) -> Counts {
-    named(*times, |number: usize| {
-        format!("number {number}: {}", MEANINGS[number])
-    })
-}
 
 pub fn named<const N: usize>(times: [usize; N], name: impl Fn(usize) -> String) -> Counts {
     times

@@ -1,0 +1,10 @@
+pub mod Sameness
+pub mod Flagging
+pub mod Running
+pub mod Placing
+pub mod Rising
+pub mod Entries
+pub mod RowNumbers
+pub mod Singles
+pub mod Progress
+pub mod Emitting
