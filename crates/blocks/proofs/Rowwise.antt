@@ -1,19 +1,22 @@
 -- A block by four rows: where the rows stand, and that to get them is to get the block. Assumes nothing.
 use Prim.Native.Nat.{ℕ, _+_, _*_, _/_, _%_, _<_, _≤_}
 use mathlib.Core.Path.{_≡_, refl, sym, _∙_}
+use mathlib.Core.Bool.{true}
 use mathlib.Core.List.{List, [], _∷_}
 use native.Mathlib.Nat.{add-mul, add-zero, mul-le-mul, div-le-self}
 use native.Mathlib.Omega.{arith}
 use lib.ListN.{length}
 use Rattle.spec.specs.Basics.{part}
-use Rattle.spec.specs.Sizes.{maxColumns, maxLines, maxBlocks, maxWidth}
+use Rattle.spec.specs.declared.Size.{Size}
+use Rattle.spec.specs.Sizes.{maxColumns, maxLines, maxBlocks, maxWidth, allowed, pixels, columns, lines}
 use Rattle.spec.specs.Pictures.{place, shown, blockAt}
+use Rattle.spec.proofs.Limits.{blocks-most, allowed-size, area}
 use Rattle.spec.proofs.Parts.{part-listed}
 use Rattle.spec.proofs.Places.{place-below}
 use Rattle.blocks.specs.Blocks.{rowOf, row, rows, Canvas}
 
 pub few : (c r k : ℕ) → c ≤ maxColumns → r ≤ maxLines → k < c * r → k < maxBlocks
-few c r k a b h = omega (arith, mul-le-mul {n₂ = maxColumns} {m₂ = maxLines} a b)
+few c r k a b h = omega (arith, blocks-most c r a b)
 
 pub line-small : (c k : ℕ) → c ≤ maxColumns → k < maxBlocks → 4 * (k / c) * (4 * c) ≤ 4 * maxBlocks * maxWidth
 line-small c k a b = mul-le-mul {n₂ = 4 * maxBlocks} {m₂ = maxWidth} (omega (arith, div-le-self k c)) (omega arith)
@@ -26,7 +29,16 @@ place-split c k i = rw (add-mul (4 * (k / c)) (i / 4) (4 * c), add-mul (4 * (k /
 pub span : (c r k : ℕ) (pic : List ℕ) → Canvas c r pic → k < c * r → place c k 0 + 3 * (4 * c) + 4 ≤ length pic
 span c r k pic g h = omega (arith, place-below c r (g .wide) k 15 h (omega arith), place-split c k 15)
 
--- a canvas of the same length
+-- a picture has so many blocks at most
+pub at-most : (c r : ℕ) (pic : List ℕ) → Canvas c r pic → c * r ≤ maxBlocks
+at-most c r pic g = blocks-most c r (g .narrow) (g .low)
+
+-- a picture of an allowed size is a canvas; and one of the same length
+pub canvas : (z : Size) → allowed z ≡ true → (pic : List ℕ) → length pic ≡ pixels z → Canvas (columns z) (lines z) pic
+canvas z fine pic e =
+    let s = allowed-size z fine in
+    record { wide = s .wide; narrow = s .narrow; low = s .low; exact = e ∙ sym (area z fine) }
+
 pub on : (c r : ℕ) (pic pic′ : List ℕ) → Canvas c r pic → length pic′ ≡ length pic → Canvas c r pic′
 on c r pic pic′ g e = record { wide = g .wide; narrow = g .narrow; low = g .low; exact = e ∙ g .exact }
 

@@ -2,13 +2,13 @@
 use Prim.Native.Nat.{ℕ, zero, suc, _≤_}
 use mathlib.Core.Path.{_≡_, refl, sym, ap, _∙_}
 use mathlib.Core.Logic.{_≢_}
-use mathlib.Core.Bool.{Bool, true, false, _&&_, and-eq-true-iff}
+use mathlib.Core.Bool.{Bool, true, false, _&&_}
 use mathlib.Core.List.{List}
 use native.Mathlib.Omega.{arith}
 use lib.Dec.{eqb}
 use lib.ListN.{length, take, drop, length-append}
 use lib.Seq.{take-at}
-use borrow.Author.Tests.{eq-eqb, eqb-true}
+use borrow.Author.Tests.{eq-eqb}
 use Rattle.spec.specs.declared.Answer.{Answer}
 use Rattle.spec.specs.declared.Size.{Size}
 use Rattle.spec.specs.Basics.{if}
@@ -17,7 +17,7 @@ use Rattle.spec.specs.Sizes.{allowed, pixels, blocks, fault}
 use Rattle.spec.specs.Boards.{Board, board, Exact, exact, read}
 use Rattle.spec.specs.Writing.{chunkFor, onto, Wrote, wrote, emit, write}
 use Rattle.spec.proofs.Lists.{checked-refused}
-use Rattle.spec.proofs.Limits.{exact-true, no-fault-both}
+use Rattle.spec.proofs.Limits.{exact-true, no-fault-lengths}
 use Rattle.trust.specs.RoundTrip.{marked}
 use Rattle.trust.proofs.RoundTrip.{reads-back}
 use Rattle.round_trip.specs.Trip.{Trip, trip, roundTrip}
@@ -51,8 +51,7 @@ module _ (z : Size) (new : List ℕ) (b : Board) (e : Exact z b) (out : List ℕ
   goes =
       rw same-fault
       (checked-both (Goes z new b) _ (λ a h. refused h) (λ f.
-      let both = and-eq-true-iff (eqb (length (b .picture)) (pixels z)) (eqb (length new) (pixels z)) .0 (no-fault-both z _ f .1) in
-      by-both (Goes z new b) _ (refused (λ q. omega arith)) (written out (eqb-true (length new) (pixels z) (both .1)))))
+      by-both (Goes z new b) _ (refused (λ q. omega arith)) (written out (no-fault-lengths z (length (b .picture)) (length new) (pixels z) (pixels z) f .1 .1))))
 
 module _ (z : Size) (new : List ℕ) (b : Board) where
   is-refused : {w : Wrote} {t : Trip} → Goes z new b w t → w .answer .number ≢ ok → t ≡ trip (w .answer) b (w .output)
@@ -118,6 +117,5 @@ module _ (z : Size) (new : List ℕ) (b : Board) (out : List ℕ) where
   module _ (n : ℕ) (q : n ≡ fault z (exact z b)) (h : n ≡ ok) where
     pub fine : (allowed z ≡ true) × Exact z b
     fine =
-        let f = no-fault-both z (exact z b) (sym q ∙ h) in
-        let both = and-eq-true-iff (eqb (length (b .picture)) (pixels z)) (eqb (length (b .map)) (blocks z)) .0 (f .1) in
-        (f .0, record { picture = eqb-true _ _ (both .0); map = eqb-true _ _ (both .1) })
+        let f = no-fault-lengths z (length (b .picture)) (length (b .map)) (pixels z) (blocks z) (sym q ∙ h) in
+        (f .0, record { picture = f .1 .0; map = f .1 .1 })

@@ -4,6 +4,8 @@ use spec::Size;
 ghost use mathlib.Core.Path.{_≡_};
 ghost use mathlib.Core.Bool.{_&&_};
 ghost use lib.Dec.{eqb};
+ghost use Rattle.spec.specs.Answers.{ok, badLength};
+ghost use Rattle.spec.specs.Basics.{if};
 ghost use Rattle.spec.specs.Sizes.{side, allowed, pixels, blocks, fault};
 
 // Whether a picture's side may have this length, with `most` as its limit.
@@ -29,15 +31,22 @@ pub fn is_allowed(size: Size) -> bool
     false
 }
 
+// 2 where a length is not the exact one, or 0.
+fn length_fault(length: usize, exact: usize) -> u8
+    ensures { λ r. ⌜ r ≡ if (eqb length exact) ok badLength ⌝ }
+{
+    if length == exact {
+        return Answer::OK;
+    }
+    Answer::BAD_LENGTH
+}
+
 // 1, or 2 for a map of so many entries, or 0.
 pub fn map_fault(size: Size, entries: usize) -> u8
     ensures { λ r. ⌜ r ≡ fault size (eqb entries (blocks size)) ⌝ }
 {
     if is_allowed(size) {
-        if entries == size.width / 4 * (size.height / 4) {
-            return Answer::OK;
-        }
-        return Answer::BAD_LENGTH;
+        return length_fault(entries, size.width / 4 * (size.height / 4));
     }
     Answer::BAD_SIZE
 }
@@ -62,10 +71,7 @@ pub fn pictures_fault(size: Size, old: usize, new: usize) -> u8
     if is_allowed(size) {
         let bytes = size.width * size.height;
         if old == bytes {
-            if new == bytes {
-                return Answer::OK;
-            }
-            return Answer::BAD_LENGTH;
+            return length_fault(new, bytes);
         }
         return Answer::BAD_LENGTH;
     }

@@ -13,7 +13,7 @@ use Rattle.spec.specs.Flags.{number}
 use Rattle.spec.specs.Chunks as Chunks
 use Rattle.spec.specs.Chunks.{kindOf, once, each, bodyAt, opcode, act, step, State, start, extend, stored, refused, accepted, finish, resume, loop, decode, verdict}
 use Rattle.spec.proofs.Lists.{by-test}
-use Rattle.spec.proofs.Loops.{unroll, unroll-end}
+use Rattle.spec.proofs.Loops.{unroll, unroll-end, loop-accepts}
 use Rattle.spec.proofs.Made.{length-extend}
 use Rattle.spec.proofs.Parts.{part-listed}
 use Rattle.spec.proofs.Sound.{Checked, good, checked-head}
@@ -134,12 +134,8 @@ module _ (n : ℕ) (s : List ℕ) where
         rw d
 
     pub ends-ok : n ≤ k → length s ≤ at → answer ok (length s) ≡ verdict s (decode n s)
-    unfolding finish if
     ends-ok a b =
-        let d : decode n s ≡ accepted (g .st .made) =
-        g .same
-        ∙ unroll-end n s (length s) (g .st) (rw (le-ltb (length (g .st .made)) n (omega (arith, g .ks))))
-        ∙ rw (le-ltb (length (g .st .made)) n (omega (arith, g .ks)), le-ltb (g .st .at) (length s) (omega (arith, g .ats))) in
+        let d : decode n s ≡ accepted (g .st .made) = g .same ∙ loop-accepts n s (length s) (g .st) (omega (arith, g .ks)) (omega (arith, g .ats)) in
         rw d
 
 -- the refusals before any opcode

@@ -12,6 +12,7 @@ use lib.Seq.{getD-set-same, getD-set-other}
 use borrow.Author.Tests.{lt-ltb, le-ltb, eq-eqb, ne-eqb, lt-leb}
 use Rattle.spec.specs.Basics.{if, Every, none, also}
 use Rattle.spec.specs.Chunks.{Kind, kindOf, names, stores, capacity, Table, emptied, put, start, fills, missing, stored}
+use Rattle.spec.proofs.Heads.{missing-unnamed}
 use Rattle.spec.proofs.Computed.{passes, test-at, agree-at}
 use Rattle.spec.proofs.Lists.{every-getD, every-set}
 use Rattle.smc.specs.declared.check.Filled.{Filled}
@@ -49,10 +50,10 @@ module _ (filled : List ℕ) (u e : ℕ) where
   missing-octet eu = named-at 3 (rw eu) (λ z. omega arith)
 
   pub missing-none : u < 16 → u ≢ 9 → u ≢ 11 → u ≢ 13 → missing filled (kindOf u) e ≡ false
-  unfolding missing if
+  unfolding if
   missing-none h a b c =
       let z = agree-at (λ u. names (kindOf u)) (λ u. if (eqb u 9) 1 (if (eqb u 11) 2 (if (eqb u 13) 3 0))) 16 refl u h in
-      rw (z, ne-eqb u 9 a, ne-eqb u 11 b, ne-eqb u 13 c)
+      missing-unnamed filled (kindOf u) e (z ∙ rw (ne-eqb u 9 a, ne-eqb u 11 b, ne-eqb u 13 c))
 
 -- a table as a chunk fills it: until it is full the next entry is the first that is not filled
 pub record Filling (t : Table) : Type 0 where

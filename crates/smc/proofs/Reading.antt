@@ -3,10 +3,8 @@ use Prim.Native.Nat.{ℕ}
 use mathlib.Core.Path.{_≡_, refl, sym, ap, _∙_}
 use mathlib.Core.Logic.{_≢_}
 use mathlib.Core.List.{List}
-use mathlib.Core.Bool.{true, and-eq-true-iff}
-use lib.Dec.{eqb}
+use mathlib.Core.Bool.{true}
 use lib.ListN.{length}
-use borrow.Author.Tests.{eqb-true}
 use Rattle.spec.specs.declared.Answer.{Answer}
 use Rattle.spec.specs.declared.Size.{Size}
 use Rattle.spec.specs.Answers.{ok, answer}
@@ -16,7 +14,8 @@ use Rattle.spec.specs.Maps.{remap}
 use Rattle.spec.specs.Chunks.{Outcome, decode, verdict}
 use Rattle.spec.specs.Boards.{board, Left, left, exact, effect, readExact, read}
 use Rattle.spec.proofs.Lists.{checked-none, checked-refused}
-use Rattle.spec.proofs.Limits.{allowed-size, area, no-fault-both}
+use Rattle.spec.proofs.Limits.{no-fault-lengths}
+use Rattle.blocks.proofs.Rowwise.{canvas}
 use Rattle.spec.proofs.Refused.{Numbered, refused, accepted, numbered}
 use Rattle.smc.specs.Painting.{Accepts, originsOf, Lent}
 
@@ -31,7 +30,7 @@ module _ (z : Size) (s pic m : List ℕ) where
   -- neither 1 nor 2
   module _ (e : ℕ) (q : e ≡ boardFault) (h : e ≡ ok) where
     pub size-allowed : allowed z ≡ true
-    size-allowed = no-fault-both z _ (sym q ∙ h) .0
+    size-allowed = no-fault-lengths z (length pic) (length m) (pixels z) (blocks z) (sym q ∙ h) .0
 
     reads : read z s (board pic m) ≡ readExact z s (board pic m)
     unfolding read
@@ -39,18 +38,8 @@ module _ (z : Size) (s pic m : List ℕ) where
 
     pub lent : Lent (columns z) (lines z) pic m
     lent =
-        let a = allowed-size z size-allowed in
-        let both = and-eq-true-iff (eqb (length pic) (pixels z)) (eqb (length m) (blocks z)) .0 (no-fault-both z _ (sym q ∙ h) .1) in
-        record {
-          canvas =
-              record {
-                wide = a .wide;
-                narrow = a .narrow;
-                low = a .low;
-                exact = eqb-true (length pic) (pixels z) (both .0) ∙ sym (area z size-allowed);
-              };
-          entries = eqb-true (length m) (blocks z) (both .1);
-        }
+        let f = no-fault-lengths z (length pic) (length m) (pixels z) (blocks z) (sym q ∙ h) in
+        record { canvas = canvas z (f .0) pic (f .1 .0); entries = f .1 .1 }
 
     pub read-says : read z s (board pic m) .said ≡ verdict s (decode (blocks z) s)
     read-says = ap (λ (l : Left Answer). l .said) reads

@@ -2,29 +2,31 @@
 use Prim.Native.Nat.{ℕ, _+_, _-_, _*_, _/_, _%_, _<_, _≤_}
 use mathlib.Core.Path.{_≡_, refl, sym, ap, _∙_}
 use mathlib.Core.Logic.{_≢_}
-use mathlib.Core.Bool.{true, _&&_, and-eq-true-iff}
+use mathlib.Core.Bool.{true, _&&_}
 use mathlib.Core.List.{List, [], _∷_}
 use native.Mathlib.Nat.{div-one}
 use native.Mathlib.Omega.{arith}
 use lib.Dec.{eqb}
 use lib.ListN.{length, set, take, drop}
 use borrow.Rule.Slice.PartMut.{putMid}
-use borrow.Author.Tests.{lt-ltb, le-ltb, eqb-true}
+use borrow.Author.Tests.{lt-ltb, le-ltb}
 use Rattle.spec.specs.declared.Size.{Size}
 use Rattle.spec.specs.Basics.{if}
 use Rattle.spec.specs.Answers.{ok, outputShort, answer}
-use Rattle.spec.specs.Sizes.{maxBlocks, allowed, pixels, columns, lines, fault}
+use Rattle.spec.specs.Sizes.{allowed, pixels, columns, lines, fault}
 use Rattle.spec.specs.Pictures.{Origin}
 use Rattle.spec.specs.Flags.{digits}
 use Rattle.spec.specs.Writing.{opcodes, encode, maxLength, onto, wrote, emit, differences, write}
 use Rattle.spec.proofs.Lists.{checked-none, checked-refused}
-use Rattle.spec.proofs.Limits.{allowed-size, area, no-fault-both}
-use Rattle.spec.proofs.Written.{length-encode, encode-most}
+use Rattle.spec.proofs.Limits.{no-fault-lengths}
+use Rattle.spec.proofs.Written.{length-encode}
 use Rattle.blocks.specs.Blocks.{Canvas}
+use Rattle.blocks.proofs.Rowwise.{canvas}
 use Rattle.smc_writer.specs.Kept.{origins, Flagged}
 use Rattle.smc_writer.specs.Put.{over}
 use Rattle.smc_writer.proofs.Placing.{length-over, lent, length-lent}
-use Rattle.smc_writer.proofs.Flagging.{length-origins, origins-writable, origins-differ}
+use Rattle.smc_writer.proofs.Flagging.{origins-differ}
+use Rattle.smc_writer.proofs.Progress.{opcodes-few}
 
 -- four bytes in front of what was written behind them
 head-put : (a b c d : ℕ) (ops o : List ℕ) → 4 ≤ length o
@@ -66,10 +68,7 @@ module _ (os : List Origin) (o : List ℕ) (room : length (encode os) ≤ length
 
 -- how long it can be
 pub origins-most : (c n : ℕ) (kept new : List ℕ) → length (encode (origins c n kept new)) ≤ maxLength n
-origins-most c n kept new =
-    let l = length-origins c n kept new in
-    let m = encode-most (origins c n kept new) (origins-writable c n kept new) in
-    omega arith
+origins-most c n kept new = omega (arith, length-encode (origins c n kept new), opcodes-few c n kept new)
 
 -- 14, or the chunk
 module _ (bytes o : List ℕ) where
@@ -88,27 +87,14 @@ module _ (z : Size) (old new o : List ℕ) (e : ℕ) (q : e ≡ fault z (eqb (le
   write-refused h = checked-refused _ _ _ (λ w. h (q ∙ w)) ∙ ap (λ (n : ℕ). wrote (answer n 0) o) (sym q)
 
   module _ (h : e ≡ ok) where
-    size-allowed : allowed z ≡ true
-    size-allowed = no-fault-both z _ (sym q ∙ h) .0
-
-    lengths : (length old ≡ pixels z) × (length new ≡ pixels z)
-    lengths =
-        let both = and-eq-true-iff (eqb (length old) (pixels z)) (eqb (length new) (pixels z)) .0 (no-fault-both z _ (sym q ∙ h) .1) in
-        (eqb-true _ _ (both .0), eqb-true _ _ (both .1))
-
-    canvas : (pic : List ℕ) → length pic ≡ pixels z → Canvas (columns z) (lines z) pic
-    canvas pic l =
-        let s = allowed-size z size-allowed in
-        record { wide = s .wide; narrow = s .narrow; low = s .low; exact = l ∙ sym (area z size-allowed) }
+    sound : (allowed z ≡ true) × ((length old ≡ pixels z) × (length new ≡ pixels z))
+    sound = no-fault-lengths z (length old) (length new) (pixels z) (pixels z) (sym q ∙ h)
 
     pub old-canvas : Canvas (columns z) (lines z) old
-    old-canvas = canvas old (lengths .0)
+    old-canvas = canvas z (sound .0) old (sound .1 .0)
 
     pub new-canvas : Canvas (columns z) (lines z) new
-    new-canvas = canvas new (lengths .1)
-
-    pub few-blocks : columns z * lines z ≤ maxBlocks
-    few-blocks = allowed-size z size-allowed .few
+    new-canvas = canvas z (sound .0) new (sound .1 .1)
 
     pub write-emits : (kept : List ℕ) → Flagged (columns z) (columns z * lines z) old new kept
         → write z old new o ≡ emit (encode (origins (columns z) (columns z * lines z) kept new)) o

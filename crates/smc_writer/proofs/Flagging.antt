@@ -1,10 +1,9 @@
 -- The flags of kept blocks, one more at a time; and the origins that they stand for. Assumes nothing.
-use Prim.Native.Nat.{ℕ, zero, suc, _+_, _*_, _<_, _≤_}
+use Prim.Native.Nat.{ℕ, suc, _+_, _<_, _≤_}
 use mathlib.Core.Path.{_≡_, refl, ap, _∙_}
 use mathlib.Core.Logic.{_≢_}
 use mathlib.Core.Bool.{Bool, true, false}
 use mathlib.Core.List.{List, [], _∷_, map}
-use native.Mathlib.Nat.{mul-le-mul}
 use native.Mathlib.Decide.{ℕ-discrete}
 use native.Mathlib.Omega.{arith}
 use lib.Dec.{eqb}
@@ -12,17 +11,12 @@ use lib.ListN.{length, getD, set, drop, length-map, drop-of-length-le}
 use lib.Seq.{drop-cons, getD-set-same, getD-set-other}
 use borrow.Author.Tests.{eq-eqb, ne-eqb}
 use Rattle.spec.specs.Basics.{if, from, same}
-use Rattle.spec.specs.Sizes.{maxColumns, maxLines, maxBlocks}
 use Rattle.spec.specs.Pictures.{Origin, given, held, blockAt}
-use Rattle.spec.specs.Writing.{Writable, ends, keeps, gives, difference}
+use Rattle.spec.specs.Writing.{Writable, keeps, gives, difference}
 use Rattle.spec.proofs.Lists.{by-test, length-from, getD-rule, every-from, every-weaken, map-congr}
 use Rattle.spec.proofs.Blocks.{length-shown}
-use Rattle.blocks.specs.Blocks.{Canvas}
+use Rattle.spec.proofs.Written.{writable-rule}
 use Rattle.smc_writer.specs.Kept.{originAt, origins, Flagged}
-
--- a picture has so many blocks at most
-pub at-most : (c r : ℕ) (pic : List ℕ) → Canvas c r pic → c * r ≤ maxBlocks
-at-most c r pic g = mul-le-mul {n₂ = maxColumns} {m₂ = maxLines} (g .narrow) (g .low)
 
 pub flagged-more : (c k : ℕ) (old new kept : List ℕ) → k < length kept → Flagged c k old new kept
     → {v : ℕ} → v ≡ if (same (blockAt c old k) (blockAt c new k)) 1 0 → Flagged c (k + 1) old new (set kept k v)
@@ -59,14 +53,10 @@ module _ (c n : ℕ) (kept new : List ℕ) where
 
   pub origins-writable : Writable 0 (origins c n kept new)
   unfolding origins originAt
-  origins-writable = by 0 n
+  origins-writable = writable-rule (originAt c kept new) one 0 n
     where
-      one : (k : ℕ) {os : List Origin} → Writable (suc k) os → Writable k (if (eqb (getD kept k 0) 0) (given (blockAt c new k)) (held k) ∷ os)
-      one k {os} w = by-test (λ (o : Origin). Writable k (o ∷ os)) _ (λ t. gives (length-shown c new (held k)) w) (λ t. keeps w)
-
-      by : (k n : ℕ) → Writable k (map (originAt c kept new) (from k n))
-      by k zero = ends
-      by k (suc n) = one k (by (suc k) n)
+      one : (k : ℕ) (os : List Origin) → Writable (suc k) os → Writable k (if (eqb (getD kept k 0) 0) (given (blockAt c new k)) (held k) ∷ os)
+      one k os w = by-test (λ (o : Origin). Writable k (o ∷ os)) _ (λ t. gives (length-shown c new (held k)) w) (λ t. keeps w)
 
   -- flagged by the old picture, they are its difference to the new one
   pub origins-differ : (old : List ℕ) → Flagged c n old new kept

@@ -8,7 +8,7 @@ use lib.ListN.{length, getD}
 use borrow.Author.Tests.{ltb-false, leb-false, lt-ltb, le-ltb, le-leb, lt-leb}
 use Rattle.spec.specs.Basics.{if}
 use Rattle.spec.specs.Answers.{opcodeCut, opcodeUnknown, noneBefore, pastLastBlock, entryEmpty}
-use Rattle.spec.specs.Chunks.{Head, runs, kindOf, times, reach, once, each, missing, body, upperAt, countAt, bodyAt, opcode}
+use Rattle.spec.specs.Chunks.{Kind, Head, runs, kindOf, times, reach, once, each, names, missing, body, upperAt, countAt, bodyAt, opcode}
 use Rattle.spec.proofs.Lists.{by-test}
 
 -- an opcode of upper half-byte u and its count, whose further bytes stand at b, has its blocks, its bytes and its table's entry
@@ -44,6 +44,11 @@ known-head n s at k filled =
 pub body-after : (s : List ℕ) (at : ℕ) → at < bodyAt s at
 unfolding bodyAt
 body-after s at = by-test (λ (p : ℕ). at < p) _ (λ t. omega arith) (λ t. omega arith)
+
+-- a kind that names no entry misses none
+pub missing-unnamed : (filled : List ℕ) (k : Kind) (e : ℕ) → names k ≡ 0 → missing filled k e ≡ false
+unfolding missing if
+missing-unnamed filled k e z = rw z
 
 -- r, t, o and e are the numbers that code holds for `reach`, `times`, `once` and `each`
 module _ (n : ℕ) (s : List ℕ) (k : ℕ) (filled : List ℕ) (u count at : ℕ) (r : ℕ) (er : r ≡ reach (kindOf u)) where

@@ -38,6 +38,10 @@ pub record Allowed (z : Size) : Type 0 where
   pub few : blocks z ≤ maxBlocks
   pub small : pixels z ≤ maxPixels
 
+-- as many blocks as the limits allow
+pub blocks-most : (c r : ℕ) → c ≤ maxColumns → r ≤ maxLines → c * r ≤ maxBlocks
+blocks-most c r a b = mul-le-mul {n₂ = maxColumns} {m₂ = maxLines} a b
+
 pub allowed-size : (z : Size) → allowed z ≡ true → Allowed z
 allowed-size z e =
     let both = and-eq-true-iff (side maxWidth (z .width)) (side maxHeight (z .height)) .0 e in
@@ -52,7 +56,7 @@ allowed-size z e =
       narrow = omega arith;
       low = omega arith;
       some = mul-pos (a .some) (b .some);
-      few = mul-le-mul {n₂ = maxColumns} {m₂ = maxLines} (omega arith) (omega arith);
+      few = blocks-most (columns z) (lines z) (omega arith) (omega arith);
       small = mul-le-mul {n₂ = maxWidth} {m₂ = maxHeight} w h;
     }
 
@@ -89,3 +93,15 @@ no-fault-both z t e = by (allowed z) t e
     by true true e = (refl, refl)
     by true false e = unfold if in absurd (omega (arith, e))
     by false b e = unfold if in absurd (omega (arith, e))
+
+-- where two lengths were looked at
+pub no-fault-lengths : (z : Size) (a b p q : ℕ) → fault z (eqb a p && eqb b q) ≡ ok → (allowed z ≡ true) × ((a ≡ p) × (b ≡ q))
+no-fault-lengths z a b p q e =
+    let f = no-fault-both z (eqb a p && eqb b q) e in
+    let both = and-eq-true-iff (eqb a p) (eqb b q) .0 (f .1) in
+    (f .0, (eqb-true a p (both .0), eqb-true b q (both .1)))
+
+-- where the size is allowed, it is the lengths alone
+pub fault-allowed : (z : Size) (t : Bool) → allowed z ≡ true → fault z t ≡ if t ok badLength
+unfolding fault if
+fault-allowed z t a = rw a

@@ -1,13 +1,14 @@
 -- The loop over the opcodes of a chunk: its fuel never runs out, and the equations that a loop of code goes by. Assumes nothing.
 use Prim.Native.Nat.{ℕ, suc, _+_, _-_, _*_, _<_, _≤_}
-use mathlib.Core.Path.{_≡_, refl}
+use mathlib.Core.Path.{_≡_, refl, _∙_}
 use mathlib.Core.List.{List}
 use mathlib.Core.Bool.{true, false, and-false, and-eq-true-iff}
 use native.Mathlib.Omega.{arith}
 use lib.ListN.{length}
 use lib.Dec.{ltb}
 use borrow.Author.Tests.{ltb-true, lt-ltb, le-ltb}
-use Rattle.spec.specs.Chunks.{State, Step, stop, go, Outcome, step, finish, resume, goesOn, loop, Head, act, fills, once, each}
+use Rattle.spec.specs.Basics.{if}
+use Rattle.spec.specs.Chunks.{State, Step, stop, go, Outcome, accepted, step, finish, resume, goesOn, loop, Head, act, fills, once, each}
 use Rattle.spec.proofs.Fuel.{fuel-end, fuel-enough, fuel-turn}
 use Rattle.spec.proofs.Sound.{Checked, good, checked-head}
 
@@ -59,3 +60,9 @@ module _ (n : ℕ) (s : List ℕ) where
   pub unroll-end : (fuel : ℕ) (st : State) → goesOn n s st ≡ false → loop fuel n s st ≡ finish n s st
   unfolding loop
   unroll-end fuel st e = fuel-end _ _ _ fuel st e
+
+  -- all blocks made, and no byte left
+  pub loop-accepts : (fuel : ℕ) (st : State) → n ≤ length (st .made) → length s ≤ st .at → loop fuel n s st ≡ accepted (st .made)
+  unfolding finish if
+  loop-accepts fuel st h g =
+      unroll-end fuel st (rw (le-ltb (length (st .made)) n h)) ∙ rw (le-ltb (length (st .made)) n h, le-ltb (st .at) (length s) g)

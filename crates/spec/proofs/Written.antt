@@ -141,6 +141,11 @@ length-encode os = rw (length-append, length-digits) (omega arith)
 pub encode-most : (os : List Origin) → Writable 0 os → length (encode os) ≤ maxLength (length os)
 encode-most os w = omega (arith, length-encode os, opcodes-most os 0 0 w (omega arith))
 
+-- a list given by a rule can be written where each block can
+pub writable-rule : (f : ℕ → Origin) → ((k : ℕ) (os : List Origin) → Writable (suc k) os → Writable k (f k ∷ os)) → (k n : ℕ) → Writable k (map f (from k n))
+writable-rule f one k zero = ends
+writable-rule f one k (suc n) = one k (map f (from (suc k) n)) (writable-rule f one (suc k) n)
+
 -- a difference has an origin for each block, and can be written
 module _ (z : Size) (old new : List ℕ) where
   pub length-differences : length (differences z old new) ≡ blocks z
@@ -149,13 +154,9 @@ module _ (z : Size) (old new : List ℕ) where
 
   pub differences-writable : Writable 0 (differences z old new)
   unfolding differences difference
-  differences-writable = by 0 (blocks z)
+  differences-writable = writable-rule _ one 0 (blocks z)
     where
-      one : (k : ℕ) {os : List Origin} → Writable (suc k) os → Writable k (difference (blockAt (columns z) old k) (blockAt (columns z) new k) k ∷ os)
-      one k {os} w =
+      one : (k : ℕ) (os : List Origin) → Writable (suc k) os → Writable k (difference (blockAt (columns z) old k) (blockAt (columns z) new k) k ∷ os)
+      one k os w =
           by-test (λ (o : Origin). Writable k (o ∷ os)) (same (blockAt (columns z) old k) (blockAt (columns z) new k)) (λ t. keeps w)
           (λ t. gives (length-shown (columns z) new (held k)) w)
-
-      by : (k n : ℕ) → Writable k (map (λ k. difference (blockAt (columns z) old k) (blockAt (columns z) new k) k) (from k n))
-      by k zero = ends
-      by k (suc n) = one k (by (suc k) n)

@@ -1,10 +1,9 @@
 -- What was written reads back: for every list of origins that can be written, and for two pictures of one size. Assumes nothing.
-use Prim.Native.Nat.{ℕ, zero, suc, _+_, _-_, _*_, _^_, _<_, _≤_}
+use Prim.Native.Nat.{ℕ, zero, suc, _+_, _-_, _^_, _<_, _≤_}
 use mathlib.Core.Path.{_≡_, refl, sym, ap, _∙_}
 use mathlib.Core.List.{List, [], _∷_, _++_, map, map-map, append-assoc, append-nil}
-use mathlib.Core.Bool.{true, false, and-eq-true-iff, true≢false}
+use mathlib.Core.Bool.{true, and-eq-true-iff, true≢false}
 use native.Mathlib.Omega.{arith}
-use lib.Dec.{ltb}
 use lib.ListN.{length, drop, length-append, length-map}
 use borrow.Author.Tests.{le-ltb, eq-eqb}
 use Rattle.spec.specs.declared.Size.{Size}
@@ -14,7 +13,7 @@ use Rattle.spec.specs.Sizes.{allowed, pixels, columns, lines, blocks}
 use Rattle.spec.specs.Pictures.{Origin, given, held, shown, blockAt, paint}
 use Rattle.spec.specs.Maps.{entry, remap}
 use Rattle.spec.specs.Flags.{number, digits}
-use Rattle.spec.specs.Chunks.{State, start, accepted, resume, loop, finish, decode, verdict}
+use Rattle.spec.specs.Chunks.{State, start, accepted, resume, loop, decode, verdict}
 use Rattle.spec.specs.Boards.{board, left, effect, read}
 use Rattle.spec.specs.Writing.{plain, opcodeFor, joins, alike, maxRun, opcodes, Writable, keeps, gives, encode, maxLength, difference, differences}
 use Rattle.spec.proofs.Lists.{by-test, if-apply, length-from, getD-rule, map-congr, every-all, same-lists}
@@ -22,7 +21,7 @@ use Rattle.spec.proofs.Parts.{part-of}
 use Rattle.spec.proofs.Limits.{allowed-size, area}
 use Rattle.spec.proofs.Blocks.{shown-at, shown-same, length-paint, painted, equal-by-blocks}
 use Rattle.spec.proofs.Boards.{read-exact}
-use Rattle.spec.proofs.Loops.{unroll, unroll-end}
+use Rattle.spec.proofs.Loops.{unroll, loop-accepts}
 use Rattle.spec.proofs.Digits.{length-digits}
 use Rattle.spec.proofs.Numbers.{number-digits}
 use Rattle.spec.proofs.Written.{alike-room, alike-alone, writable-first, writable-rest, opcode-some, length-encode, encode-most, length-differences, differences-writable}
@@ -57,10 +56,6 @@ stands-alone : (x : Origin) (most : ℕ) (ys : List Origin) → Alone x (suc (al
 stands-alone (held j) most ys = tt
 stands-alone (given px) most ys = λ t. ap suc (alike-alone px t most ys)
 
-finished : (n : ℕ) (s : List ℕ) (st : State) → n ≤ length (st .made) → length s ≤ st .at → finish n s st ≡ accepted (st .made)
-unfolding finish if
-finished n s st h g = rw (le-ltb (length (st .made)) n h, le-ltb (st .at) (length s) g)
-
 -- the reader at the first block that is not in a run already read
 module _ (n : ℕ) (s : List ℕ) where
   reads-on : (xs : List Origin) (j k : ℕ) (pre : List ℕ) (st : State) → Writable k xs → s ≡ pre ++ opcodes j xs → length pre ≡ st .at
@@ -69,8 +64,7 @@ module _ (n : ℕ) (s : List ℕ) where
   reads-on [] (suc j) k pre st w e a l b c = absurd (omega arith)
   reads-on [] zero k pre st w e a l b c =
       let len = simp length-append at (ap length e) in
-      let t : ltb (length (st .made)) n ≡ false = le-ltb (length (st .made)) n (omega arith) in
-      unroll-end n s (length s) st (rw t) ∙ finished n s st (omega arith) (omega arith) ∙ ap accepted (sym (append-nil (st .made)))
+      loop-accepts n s (length s) st (omega arith) (omega arith) ∙ ap accepted (sym (append-nil (st .made)))
   reads-on (x ∷ xs) (suc j) k pre st w e a l b c = reads-on xs j (suc k) pre st (writable-rest w) e a (omega arith) (omega arith) (omega arith)
   reads-on (x ∷ xs) zero k pre st w e a l b c =
       let m = alike x (maxRun - 1) xs in

@@ -12,11 +12,11 @@ use borrow.Author.Tests.{leb-true}
 use Rattle.spec.specs.Basics.{if, from, part}
 use Rattle.spec.specs.Pictures.{Origin, given, held}
 use Rattle.spec.specs.Flags.{flagBytes}
-use Rattle.spec.specs.Chunks.{Kind, skip, fill, store, kindOf, counted, times, reach, once, each, names, missing, runs, body, upperAt, countAt, bodyAt, opcode, fills, blocksBy, extend, stored, State, Table, go, act, step}
+use Rattle.spec.specs.Chunks.{Kind, skip, fill, store, kindOf, counted, times, reach, once, each, names, runs, body, upperAt, countAt, bodyAt, opcode, fills, blocksBy, extend, stored, State, Table, go, act, step}
 use Rattle.spec.specs.Writing.{colours, entries, entryOf, tabled, single, counting, plain, opcodeFor}
 use Rattle.spec.proofs.Lists.{by-test}
 use Rattle.spec.proofs.Parts.{part-of}
-use Rattle.spec.proofs.Heads.{opcode-body, body-runs}
+use Rattle.spec.proofs.Heads.{missing-unnamed, opcode-body, body-runs}
 use Rattle.spec.proofs.Packing.{length-flagBytes}
 use Rattle.spec.proofs.Colours.{has-entries, length-entries, pixels-back, plain-all}
 use Rattle.spec.proofs.Written.{Block}
@@ -55,17 +55,13 @@ counting-says pre more u m known even odd both some =
 abbrev Free : Kind → Type 0
 Free k = (reach k ≡ 0) × (times k ≡ 1) × (names k ≡ 0)
 
-none-missing : (filled : List ℕ) (k : Kind) (e : ℕ) → names k ≡ 0 → missing filled k e ≡ false
-unfolding missing if
-none-missing filled k e z = rw z
-
 runs-at : (n : ℕ) (s : List ℕ) (at k : ℕ) (filled : List ℕ) {kd : Kind} {m b : ℕ} → Free kd → Says s at kd m b → k + m ≤ n
     → b + once kd + each kd * m ≤ length s → opcode n s at k filled ≡ runs kd m b
 runs-at n s at k filled {kd} {m} {b} free y room end =
     let u = upperAt s at in
     opcode-body n s at k filled (y .known) (rw (y .body) (omega arith))
     ∙ rw (y .count, y .body) (body-runs n s k filled u m b 0 (sym (ap reach (y .kind) ∙ free .0)) (omega arith) 1 (sym (ap times (y .kind) ∙ free .1))
-    (omega arith) (once kd) (ap once (sym (y .kind))) (omega arith) (none-missing filled (kindOf u) (getD s b 0) (ap names (y .kind) ∙ free .2))
+    (omega arith) (once kd) (ap once (sym (y .kind))) (omega arith) (missing-unnamed filled (kindOf u) (getD s b 0) (ap names (y .kind) ∙ free .2))
     (each kd) (ap each (sym (y .kind))) (rw one-mul end) ∙ rw (y .kind, one-mul))
 
 -- one turn of the reader: these origins are made, and it goes on at `next`

@@ -12,12 +12,11 @@ use Rattle.spec.specs.Maps.{settled}
 use Rattle.spec.specs.Boards.{board, left, read}
 use Rattle.spec.specs.Writing.{maxLength, chunkFor}
 
--- what the map then holds: "the written blocks are settled and every other entry is as it was"
+-- what the map then holds: the written blocks are settled, and every other entry is as it was
 unfoldable pub marked : Size → List ℕ → List ℕ → List ℕ → List ℕ
 marked z old new m = map (λ k. if (same (blockAt (columns z) old k) (blockAt (columns z) new k)) (getD m k 0) settled) (from 0 (blocks z))
 
--- reading what was written over the old picture: accepted, "reading it over the old picture gives the new one", over every lent map;
--- and how long it can be: four bytes, and at most 17 for each block
+-- reading what was written over the old picture, with every lent map: accepted whole, and the new picture is there; and how long it can be
 pub record ReadsBack (z : Size) (old new m : List ℕ) : Type 0 where
   pub reads : read z (chunkFor z old new) (board old m) ≡ left (answer ok (length (chunkFor z old new))) (board new (marked z old new m))
   pub short : length (chunkFor z old new) ≤ maxLength (blocks z)

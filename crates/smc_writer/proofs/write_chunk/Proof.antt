@@ -1,7 +1,8 @@
 use mathlib.Core.Path.{sym, ap, _∙_}
 use native.Mathlib.Omega.{arith}
 use Rattle.spec.specs.Writing.{Wrote}
-use Rattle.smc_writer.proofs.Emitting.{write-refused, old-canvas, new-canvas, few-blocks, write-emits}
+use Rattle.blocks.proofs.Rowwise.{at-most}
+use Rattle.smc_writer.proofs.Emitting.{write-refused, old-canvas, new-canvas, write-emits}
 use borrow.Author.Needs.{needs}
 use Rattle.smc_writer.proofs.write_chunk.Statement.{statement}
 use Rattle.smc_writer.proofs.write_chunk.Tie as tie
@@ -25,7 +26,7 @@ flag-kept-requires c κs =
     let q = c .before .before .before .before .pictures-fault .ensures in
     let h = c .before .before .before .if1 .left in (
       old-canvas (a .size) (a .old .now) (a .new .now) (a .out .now) _ q h,
-      (new-canvas (a .size) (a .old .now) (a .new .now) (a .out .now) _ q h, few-blocks (a .size) (a .old .now) (a .new .now) (a .out .now) _ q h),
+      (new-canvas (a .size) (a .old .now) (a .new .now) (a .out .now) _ q h, at-most _ _ _ (new-canvas (a .size) (a .old .now) (a .new .now) (a .out .now) _ q h)),
     )
 
 slice-aggregate-emit : tie.Need-slice-aggregate-emit
@@ -36,7 +37,7 @@ emit-requires c κs =
     let a = c .before .before .before .before .before .before .before .before .before .before .before .before .args in
     let q = c .before .before .before .before .before .before .before .before .pictures-fault .ensures in
     let h = c .before .before .before .before .before .before .before .if1 .left in
-    (new-canvas (a .size) (a .old .now) (a .new .now) (a .out .now) _ q h, omega (arith, few-blocks (a .size) (a .old .now) (a .new .now) (a .out .now) _ q h))
+    (new-canvas (a .size) (a .old .now) (a .new .now) (a .out .now) _ q h, omega (arith, at-most _ _ _ (new-canvas (a .size) (a .old .now) (a .new .now) (a .out .now) _ q h)))
 
 same-length : tie.Need-same-length
 same-length c = search needs

@@ -4,7 +4,8 @@ use native.Mathlib.Omega.{arith}
 use lib.ListN.{length, length-set}
 use borrow.Author.Needs.{needs}
 use Rattle.smc_writer.specs.Kept.{Flagged}
-use Rattle.smc_writer.proofs.Flagging.{at-most, flagged-more}
+use Rattle.blocks.proofs.Rowwise.{at-most}
+use Rattle.smc_writer.proofs.Flagging.{flagged-more}
 use Rattle.smc_writer.proofs.kept.flag_kept.Statement.{statement}
 use Rattle.smc_writer.proofs.kept.flag_kept.Tie as tie
 

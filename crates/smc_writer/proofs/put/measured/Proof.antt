@@ -3,7 +3,7 @@ use mathlib.Core.Path.{_≡_, refl, sym}
 use native.Mathlib.Omega.{arith}
 use lib.ListN.{length}
 use Rattle.spec.proofs.Written.{length-encode}
-use Rattle.smc_writer.proofs.Flagging.{at-most}
+use Rattle.blocks.proofs.Rowwise.{at-most}
 use Rattle.smc_writer.proofs.Running.{ran}
 use Rattle.smc_writer.specs.Kept.{origins}
 use Rattle.smc_writer.proofs.Progress.{bytes-most, opcodes-few, Progress, progress-none, progress-room, progress-on, progress-total}

@@ -2,7 +2,7 @@ use native.Mathlib.Omega.{arith}
 use Prim.Native.Nat.{_*_}
 use lib.ListN.{length-set}
 use borrow.Author.Needs.{needs}
-use Rattle.smc_writer.proofs.Flagging.{at-most}
+use Rattle.blocks.proofs.Rowwise.{at-most}
 use Rattle.smc_writer.proofs.Progress.{opcodes-few}
 use Rattle.smc_writer.proofs.Emitting.{four-fit, opcodes-fit, length-behind, chunk-put}
 use Rattle.smc_writer.proofs.put.put_chunk.Statement.{statement}

@@ -1,6 +1,6 @@
 use Prim.Native.Nat.{_-_, _*_}
 use native.Mathlib.Omega.{arith}
-use Rattle.smc_writer.proofs.Flagging.{at-most}
+use Rattle.blocks.proofs.Rowwise.{at-most}
 use Rattle.smc_writer.proofs.Running.{ran}
 use Rattle.smc_writer.proofs.Progress.{opcodes-few, progress-room, Laid, laid-none, laid-all, laid-place, laid-fits, laid-on}
 use borrow.Author.Needs.{needs}

@@ -2,7 +2,7 @@ use mathlib.Core.Path.{sym, _∙_}
 use mathlib.Core.Bool.{true, false}
 use native.Mathlib.Omega.{arith}
 use borrow.Author.Needs.{needs}
-use Rattle.smc_writer.proofs.Flagging.{at-most}
+use Rattle.blocks.proofs.Rowwise.{at-most}
 use Rattle.smc_writer.proofs.Running.{ends-past, ends-skip, ends-kept, ends-apart}
 use Rattle.smc_writer.proofs.runs.ends_at.Statement.{statement}
 use Rattle.smc_writer.proofs.runs.ends_at.Tie as tie

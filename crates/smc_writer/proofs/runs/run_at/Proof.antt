@@ -1,4 +1,4 @@
-use Prim.Native.Nat.{_-_, _*_}
+use Prim.Native.Nat.{_+_, _-_, _*_}
 use mathlib.Core.Path.{sym, _∙_}
 use native.Mathlib.Omega.{arith}
 use borrow.Author.Needs.{needs}
@@ -11,7 +11,7 @@ abbrev Inv-loop : tie.InvT-loop
 Inv-loop kept new c r k rows m₀ m = Counting c (c * r) kept new k m
 
 abbrev μ-loop : tie.MeasureT-loop
-μ-loop kept new c r k rows m₀ m = maxRun - m
+μ-loop kept new c r k rows m₀ m = maxRun + 1 - m
 
 loop-holds : tie.Need-loop-holds Inv-loop μ-loop
 loop-holds c = counting-starts _ _ _ _ _ (c .before .before .pre .1 .1 .0)
