@@ -2,14 +2,17 @@
 //! differs.
 
 use std::fmt::{Debug, Display};
+use std::hint::black_box;
+
+use seatboard::exact::{self, Answer, Count};
+use seatboard::Size;
+use second::reader::{self, pixel_blocks, Refusal, Step};
+use second::walk::{self, Walk};
+use second::writer::{self, Chunk};
 
 use crate::feeds::FeedCase;
 use crate::generate::{Board, Case, SETTLED};
-use crate::library::{self, Answer, Count, Size};
 use crate::pictures::WriteCase;
-use crate::second::{self, pixel_blocks, Refusal, Step};
-use crate::second_walk::{self, Walk};
-use crate::second_writer::{self, Chunk};
 
 /// One of the two that are compared.
 pub struct Codec {
@@ -22,29 +25,44 @@ pub struct Codec {
 }
 
 pub const LIBRARY: Codec = Codec {
-    fresh_map: library::fresh_map,
-    count: library::count,
-    read_chunk: library::read_chunk,
-    walk_feed: library::walk_feed,
-    write_chunk: library::write_chunk,
+    fresh_map: exact::fresh_map,
+    count: |size, map| {
+        let counted = exact::count(size, map);
+        perhaps_changed(map);
+        counted
+    },
+    read_chunk: exact::read_chunk,
+    walk_feed: exact::walk_feed,
+    write_chunk: |size, old, new, output| {
+        let answer = exact::write_chunk(size, old, new, output);
+        perhaps_changed(old);
+        perhaps_changed(new);
+        answer
+    },
 };
 
+/// That nothing was written to a buffer lent for reading is for the comparison to find out, not for
+/// the compiler to assume.
+fn perhaps_changed<T>(lent: &mut [T]) {
+    black_box(lent);
+}
+
 pub const SECOND: Codec = Codec {
-    fresh_map: |size, map| answer(&second::fresh_map(size.width, size.height, map), 0),
+    fresh_map: |size, map| answer(&reader::fresh_map(size.width, size.height, map), 0),
     count: |size, map| {
-        let counted = second::count(size.width, size.height, map);
+        let counted = reader::count(size.width, size.height, map);
         Count {
             answer: answer(&counted, 0),
             unsettled: counted.unwrap_or(0),
         }
     },
     read_chunk: |size, chunk, picture, map| {
-        let reading = second::read_chunk((size.width, size.height), chunk, picture, map);
+        let reading = reader::read_chunk((size.width, size.height), chunk, picture, map);
         answer(&reading, chunk.len())
     },
-    walk_feed: |feed, picture, map| walk_answer(&second_walk::walk(feed, picture, map)),
+    walk_feed: |feed, picture, map| walk_answer(&walk::walk(feed, picture, map)),
     write_chunk: |size, old, new, output| {
-        let written = second_writer::write_chunk((size.width, size.height), old, new, output);
+        let written = writer::write_chunk((size.width, size.height), old, new, output);
         write_answer(&written)
     },
 };
@@ -197,7 +215,7 @@ pub fn read_chunk(Case { board, chunk }: &Case) -> Comparison {
     });
     let mut steps = Vec::new();
     let theirs = Outcome::of(board, |picture, map| {
-        let reading = second::read_chunk((size.width, size.height), chunk, picture, map);
+        let reading = reader::read_chunk((size.width, size.height), chunk, picture, map);
         let answer = answer(&reading, chunk.len());
         steps = reading.unwrap_or_default();
         answer
@@ -223,7 +241,7 @@ pub fn walk_feed(FeedCase { board, feed }: &FeedCase) -> FeedComparison {
     });
     let mut walked = None;
     let theirs = Outcome::of(board, |picture, map| {
-        let walk = second_walk::walk(feed, picture, map);
+        let walk = walk::walk(feed, picture, map);
         let changed = *picture != board.picture[..] || *map != board.map[..];
         let answer = walk_answer(&walk);
         walked = Some((walk, changed));
@@ -251,7 +269,7 @@ pub fn write_chunk(case: &WriteCase) -> WriteComparison {
     });
     let mut written = None;
     let theirs = Writing::of(case, |old, new, output| {
-        let chunk = second_writer::write_chunk((size.width, size.height), old, new, output);
+        let chunk = writer::write_chunk((size.width, size.height), old, new, output);
         write_answer(written.insert(chunk))
     });
     let written = written.expect("the second writer was called");

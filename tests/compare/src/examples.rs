@@ -2,9 +2,11 @@
 
 use std::fmt::Debug;
 
+use seatboard::exact::{Answer, Count};
+use seatboard::Size;
+
 use crate::compare::{Codec, Outcome};
 use crate::generate::{Board, SETTLED};
-use crate::library::{Answer, Count, Size};
 
 struct Example {
     number: usize,

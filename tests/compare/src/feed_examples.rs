@@ -1,10 +1,12 @@
 //! Feeds made by hand, with what 01 says of them; the first is the one whose listing 01 gives.
 //! All are walked over a fresh map, and all but one over an 8x4 board.
 
+use seatboard::exact::Answer;
+use seatboard::Size;
+
 use crate::compare::{Codec, Outcome};
 use crate::examples::{equal, left_board, lent_board, lent_picture};
 use crate::generate::{FULL, SETTLED};
-use crate::library::{Answer, Size};
 
 const LENT: Size = Size {
     width: 8,

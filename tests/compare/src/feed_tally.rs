@@ -1,9 +1,10 @@
 //! What the compared feeds had in them, so that a run which missed something says so.
 
+use seatboard::Size;
+use second::walk::{self, ChunkRead, Fault, Number, Stop};
+
 use crate::compare::FeedComparison;
 use crate::feeds::FeedCase;
-use crate::library::Size;
-use crate::second_walk::{self, ChunkRead, Fault, Number, Stop};
 use crate::tally::{named, Counts, Numbers, Thing, Things};
 
 /// In the order of `Number` and of `Fault`.
@@ -206,7 +207,7 @@ fn leading_numbers(feed: &[u8]) -> (Vec<usize>, usize) {
     let mut numbers = Vec::new();
     let mut at = 0;
     for which in [Number::Width, Number::Height, Number::ChunkLength] {
-        let Ok((number, after)) = second_walk::number(feed, at, which) else {
+        let Ok((number, after)) = walk::number(feed, at, which) else {
             break;
         };
         numbers.push(number);

@@ -2,8 +2,9 @@
 //! knows how a feed is laid out from paper 01 and shares nothing with the second walk, which
 //! alone says what is right.
 
+use seatboard::Size;
+
 use crate::generate::{self, Board, FULL};
-use crate::library::Size;
 use crate::random::Random;
 
 /// The walk is lent the board's buffers; it is not told the board's size.

@@ -1,7 +1,8 @@
 //! The cases: boards and chunks, valid, damaged and arbitrary. It knows how a chunk is laid out
 //! from paper 01 and shares nothing with the second reader, which alone says what is right.
 
-use crate::library::Size;
+use seatboard::Size;
+
 use crate::random::Random;
 
 pub const SETTLED: u16 = 65_535;

@@ -1,11 +1,12 @@
 //! The board program beside 01: on cases written out by hand, and on random feeds beside the
 //! second listing.
 
+use second::listing;
+
 use crate::feeds;
 use crate::program::{self, Handed};
 use crate::program_cases;
 use crate::report::Differing;
-use crate::second_listing;
 use crate::tally::{Thing, Things};
 
 pub const FEEDS: u64 = 1_000;
@@ -26,7 +27,7 @@ pub fn compare_random(seed: u64, things: &mut Things<9>) -> Result<(), String> {
     let mut differing = Differing::default();
     for number in 0..FEEDS {
         let feed = feeds::for_program(seed, number);
-        let expected = second_listing::listing(&feed);
+        let expected = listing::listing(&feed);
         things.add(things_of(&feed, &expected));
         let case = || format!("seed {seed}, listing {number}: {} bytes", feed.len());
         let printed =

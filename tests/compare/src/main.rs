@@ -30,7 +30,6 @@ mod feed_examples;
 mod feed_tally;
 mod feeds;
 mod generate;
-mod library;
 mod listings;
 mod pictures;
 mod program;
@@ -38,15 +37,13 @@ mod program_cases;
 mod random;
 mod replay;
 mod report;
-mod second;
-mod second_listing;
-mod second_walk;
-mod second_writer;
 mod tally;
 mod write_examples;
 mod write_tally;
 
 use std::process::ExitCode;
+
+use second::reader;
 
 use compare::{LIBRARY, SECOND};
 use feed_tally::FeedTally;
@@ -221,7 +218,7 @@ fn options() -> Result<Options, String> {
 
 /// 01's example 1, on the second reader alone; the library is tried on it as a chunk.
 fn half_bytes() -> Result<(), String> {
-    let numbers = second::octet_numbers([0x01, 0x23, 0x45, 0x67, 0x89, 0xAB]);
+    let numbers = reader::octet_numbers([0x01, 0x23, 0x45, 0x67, 0x89, 0xAB]);
     if numbers == [0x012456, 0x89A37B] {
         return Ok(());
     }

@@ -2,10 +2,11 @@
 //! knows from paper 01 which blocks the writer tells apart. The second writer, which alone says
 //! what is right, is asked for nothing but the chunk's length, against which outputs are measured.
 
+use seatboard::Size;
+use second::writer;
+
 use crate::generate::{self, Board};
-use crate::library::Size;
 use crate::random::Random;
-use crate::second_writer;
 
 /// The board has the size, the old picture, and the map that what was written is read back over.
 pub struct WriteCase {
@@ -128,7 +129,7 @@ impl Pictures {
 
     fn chunk_length(&self) -> usize {
         let Size { width, height } = self.size;
-        let chunk = second_writer::chunk((width, height), &self.old, &self.new);
+        let chunk = writer::chunk((width, height), &self.old, &self.new);
         chunk.expect("the pictures fit").bytes.len()
     }
 

@@ -2,13 +2,14 @@
 
 use std::process::ExitCode;
 
+use seatboard::Size;
+use second::listing;
+
 use crate::compare;
 use crate::feeds::{self, FeedCase};
 use crate::generate::{self, Board, Case};
-use crate::library::Size;
 use crate::pictures::{self, WriteCase};
 use crate::program::{self, Handed};
-use crate::second_listing;
 
 #[derive(Clone, Copy)]
 pub enum Replay {
@@ -75,7 +76,7 @@ fn listing(seed: u64, number: u64) -> Vec<String> {
     let feed = feeds::for_program(seed, number);
     println!("seed {seed}, listing {number}");
     println!("feed {feed:02X?}");
-    let expected = second_listing::listing(&feed);
+    let expected = listing::listing(&feed);
     print!("{expected}");
     match program::run(&feed, Handed::AtOnce) {
         Ok(printed) => Vec::from_iter(program::difference(&printed, &expected)),

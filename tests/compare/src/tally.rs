@@ -1,8 +1,9 @@
 //! What the compared chunks had in them, so that a run which missed something says so.
 
+use second::reader::{Command, Step};
+
 use crate::compare::Comparison;
 use crate::generate::Case;
-use crate::second::{Command, Step};
 
 /// 01, "Numbered outcomes".
 const MEANINGS: [&str; 15] = [

@@ -1,13 +1,15 @@
 //! Chunks written out by hand, as 01 says that they are written; its own examples come first. Each
 //! is tried with outputs that have room for it and with such as are too short.
 
+use seatboard::exact::Answer;
+use seatboard::Size;
+
 use crate::compare::{Codec, Writing};
 use crate::examples::{
     lent_picture, without, FOUND_AND_SAID, HALF_BYTES, HALF_BYTES_PIXELS, LOWER_LEFT,
     LOWER_LEFT_PIXELS,
 };
 use crate::generate::{Board, FULL};
-use crate::library::{Answer, Size};
 use crate::pictures::{greatest_length, WriteCase};
 
 struct Example {

@@ -1,10 +1,11 @@
 //! What the compared writes had in them, so that a run which missed something says so.
 
+use seatboard::Size;
+use second::reader::{pixel_blocks, Refusal};
+use second::writer::{Chunk, Command};
+
 use crate::compare::WriteComparison;
-use crate::library::Size;
 use crate::pictures::{greatest_length, WriteCase};
-use crate::second::{pixel_blocks, Refusal};
-use crate::second_writer::{Chunk, Command};
 use crate::tally::{named, Counts, Numbers, Thing, Things};
 
 /// Blocks of the runs that are counted: about those where the opcode changes, and where the run is

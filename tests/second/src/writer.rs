@@ -8,7 +8,7 @@
 
 use std::collections::BTreeSet;
 
-use crate::second::{check_picture, pixel_blocks, Refusal};
+use crate::reader::{check_picture, pixel_blocks, Refusal};
 
 const LONGEST_RUN: usize = 256;
 /// A longer run counts in a byte of its own.

@@ -1,7 +1,7 @@
 //! The independent second listing: what the board program prints for a feed, written from paper
 //! 01 over the second walk.
 
-use crate::second_walk;
+use crate::walk;
 
 /// 01: the board program takes feeds up to these.
 const MOST_BYTES: usize = 32_768;
@@ -14,7 +14,7 @@ pub fn listing(feed: &[u8]) -> String {
     if feed.len() > MOST_BYTES {
         return TOO_LARGE.into();
     }
-    match second_walk::size(feed) {
+    match walk::size(feed) {
         Err(stop) => end_line(stop.number_and_place()),
         Ok(((width, height), _)) if width * height > MOST_PIXELS => TOO_LARGE.into(),
         Ok((size, _)) => board_and_chunks(feed, size),
@@ -25,7 +25,7 @@ pub fn listing(feed: &[u8]) -> String {
 fn board_and_chunks(feed: &[u8], (width, height): (usize, usize)) -> String {
     let mut picture = vec![0; width * height];
     let mut map: Vec<u16> = (0..).take(width * height / 16).collect();
-    let walk = second_walk::walk(feed, &mut picture, &mut map);
+    let walk = walk::walk(feed, &mut picture, &mut map);
     let mut text = format!("board {width} {height}\n");
     for (before, read) in walk.chunks.iter().enumerate() {
         let chunk = before + 1;

@@ -1,9 +1,9 @@
 //! The independent second walk of the house feed, written from paper 01, "The house feed and the
 //! board program", and from nothing of ours. Each chunk goes to the second reader.
 //!
-//! What each chunk answered is kept, for the second listing (second_listing.rs) and the tally.
+//! What each chunk answered is kept, for the second listing (listing.rs) and the tally.
 
-use crate::second::{self, Refusal};
+use crate::reader::{self, Refusal};
 
 /// 01: a number above this is badly formed.
 const GREATEST: usize = 16_777_215;
@@ -80,7 +80,7 @@ pub fn size(feed: &[u8]) -> Result<((usize, usize), usize), Stop> {
     let (across, after) = number(feed, 0, Number::Width)?;
     let (down, after) = number(feed, after, Number::Height)?;
     let (width, height) = (4 * across, 4 * down);
-    second::check_size(width, height).map_err(Stop::Board)?;
+    reader::check_size(width, height).map_err(Stop::Board)?;
     Ok(((width, height), after))
 }
 
@@ -91,7 +91,7 @@ fn walk_chunks(
     chunks: &mut Vec<ChunkRead>,
 ) -> Result<usize, Stop> {
     let (size, mut at) = size(feed)?;
-    second::check_lent(size, picture, map).map_err(Stop::Board)?;
+    reader::check_lent(size, picture, map).map_err(Stop::Board)?;
     while at < feed.len() {
         let (length, first) = number(feed, at, Number::ChunkLength)?;
         let rest = &feed[first..];
@@ -111,11 +111,11 @@ fn read_one(
     picture: &mut [u8],
     map: &mut [u16],
 ) -> Result<ChunkRead, Stop> {
-    let (number, place) = match second::read_chunk(size, chunk, picture, map) {
+    let (number, place) = match reader::read_chunk(size, chunk, picture, map) {
         Ok(_) => (0, chunk.len()),
         Err(refusal) => refusal.number_and_place(),
     };
-    let unsettled = second::count(size.0, size.1, map).map_err(Stop::Board)?;
+    let unsettled = reader::count(size.0, size.1, map).map_err(Stop::Board)?;
     Ok(ChunkRead {
         length: chunk.len(),
         number,

@@ -1,5 +1,5 @@
-//! Links the library under test: from the folder in SEATBOARD_LIB, or else from the repository's
-//! `target/staticlib`.
+//! Links the proved library, which `make lib` leaves in `target/lib`; SEATBOARD_LIB names another
+//! folder.
 
 use std::env;
 use std::path::{Path, PathBuf};
@@ -9,7 +9,7 @@ fn main() {
     let archive = folder.join("libseatboard.a");
     if !archive.is_file() {
         panic!(
-            "{} is not there; build it or set SEATBOARD_LIB",
+            "{} is not there: run `make lib` in the repository, or set SEATBOARD_LIB",
             archive.display()
         );
     }
@@ -21,5 +21,5 @@ fn main() {
 
 fn default_folder() -> PathBuf {
     let package = env::var_os("CARGO_MANIFEST_DIR").expect("cargo sets CARGO_MANIFEST_DIR");
-    Path::new(&package).join("../../target/staticlib")
+    Path::new(&package).join("../../target/lib")
 }

@@ -1,0 +1,49 @@
+/* Gets a picture out of two chunks, shows which blocks can be trusted, and writes a chunk of its own.
+ * cc example.c libseatboard.a -o example && ./example */
+#include <stdio.h>
+#include <string.h>
+
+#include "seatboard.h"
+
+enum { WIDTH = 8, HEIGHT = 8, PIXELS = SEATBOARD_PIXELS(WIDTH, HEIGHT), BLOCKS = SEATBOARD_BLOCKS(WIDTH, HEIGHT) };
+
+static const struct seatboard_size size = {WIDTH, HEIGHT};
+
+static void show(const char *call, struct seatboard_answer answer)
+{
+    printf("%s: %u at %zu\n", call, answer.number, answer.place);
+}
+
+int main(void)
+{
+    uint8_t picture[PIXELS] = {0};
+    uint16_t map[BLOCKS];
+    show("fresh map", seatboard_fresh_map(size, map, BLOCKS));
+
+    /* two blocks kept, one of colour 5, one of colours 3 and 7 by flags */
+    const uint8_t chunk[] = {0xE1, 0, 0, 12, 0x01, 0x60, 5, 0x80, 3, 7, 0x00, 0x0F};
+    show("read chunk", seatboard_read_chunk(size, chunk, sizeof chunk, picture, PIXELS, map, BLOCKS));
+    for (int y = 0; y < HEIGHT; y++) {
+        for (int x = 0; x < WIDTH; x++)
+            printf(" %u", picture[y * WIDTH + x]);
+        printf("\n");
+    }
+    printf("unsettled: %zu\n", seatboard_count(size, map, BLOCKS).unsettled);
+
+    /* a chunk that asks for a block before the first: refused, and nothing has changed */
+    const uint8_t bad[] = {0xE1, 0, 0, 5, 0x23};
+    show("read a bad chunk", seatboard_read_chunk(size, bad, sizeof bad, picture, PIXELS, map, BLOCKS));
+
+    uint8_t wanted[PIXELS], output[SEATBOARD_LONGEST_CHUNK(WIDTH, HEIGHT)];
+    memset(wanted, 9, PIXELS);
+    struct seatboard_answer written =
+        seatboard_write_chunk(size, picture, PIXELS, wanted, PIXELS, output, sizeof output);
+    show("write chunk", written);
+    show("read it back", seatboard_read_chunk(size, output, written.place, picture, PIXELS, map, BLOCKS));
+    printf("the wanted picture: %s\n", memcmp(picture, wanted, PIXELS) == 0 ? "yes" : "no");
+
+    /* a feed: width / 4, height / 4, then each chunk behind its length */
+    const uint8_t feed[] = {2, 2, 6, 0xE1, 0, 0, 6, 0x63, 4};
+    show("walk feed", seatboard_walk_feed(feed, sizeof feed, picture, PIXELS, map, BLOCKS));
+    return 0;
+}

@@ -1,0 +1,111 @@
+/*
+ * seatboard.h - the proved picture codec of the seat boards: SMC chunks read and written, the map that says which blocks
+ * of a picture can be trusted, and the walk of the house feed. Link with libseatboard.a. For x86-64 Linux, C99 or C++.
+ *
+ * What the library promises
+ *   Whatever bytes and lengths it is lent, every call comes back with one of the numbers below. It reads and writes
+ *   nothing but what it is lent, keeps no pointer, allocates nothing, and has no state of its own: threads may call it
+ *   at once, each with its own buffers. It needs some 16 KiB of stack.
+ *   A refused call leaves all that it was lent as it was; the one exception stands at seatboard_walk_feed.
+ *
+ * What the caller owes (nothing checks it)
+ *   - Each pointer is good for as many elements as the length after it says, for reading, and for writing where it is not
+ *     const. Lengths count elements: bytes of chunks, pictures, feeds and outputs, 16-bit numbers of maps.
+ *   - Where a length is 0 its pointer may be anything, NULL too.
+ *   - A buffer that is not const overlaps no other buffer of the call. Two const ones may overlap or be the same.
+ *   - A map is aligned for uint16_t, as any array of uint16_t is.
+ *   - No other thread touches the buffers during the call.
+ *
+ * Picture, blocks, map
+ *   One byte a pixel, row after row: a picture of width x height bytes. Width and height are multiples of 4, width 4 to
+ *   320, height 4 to 200. Blocks are 4 by 4 pixels, numbered from 0, left to right, then down. A map has one entry a
+ *   block: SEATBOARD_SETTLED where the block's pixels do not depend on the starting picture, otherwise the number of the
+ *   block of the starting picture whose pixels it shows. Any numbers may be lent; they are moved and never refused.
+ */
+#ifndef SEATBOARD_H
+#define SEATBOARD_H
+
+#include <stddef.h>
+#include <stdint.h>
+
+#ifdef __cplusplus
+extern "C" {
+#endif
+
+/* A map's entry of a settled block. */
+#define SEATBOARD_SETTLED 65535
+
+/* The greatest width and height, in pixels. */
+#define SEATBOARD_MAX_WIDTH 320
+#define SEATBOARD_MAX_HEIGHT 200
+
+/* For a width and height that are allowed: a picture's bytes, a map's entries, and the most bytes that
+ * seatboard_write_chunk writes. */
+#define SEATBOARD_PIXELS(width, height) ((size_t)(width) * (size_t)(height))
+#define SEATBOARD_BLOCKS(width, height) (SEATBOARD_PIXELS(width, height) / 16)
+#define SEATBOARD_LONGEST_CHUNK(width, height) (4 + 17 * SEATBOARD_BLOCKS(width, height))
+
+/* The numbers that a call answers with, and the place that comes with each. Places count bytes from 0 at the chunk's
+ * first byte, and for a walk's own 0, 12 and 13 at the feed's. They are looked for in this order: 1, 2, 3, 4, then
+ * opcode by opcode, 11 last. */
+enum {
+    SEATBOARD_OK = 0,              /* accepted; the place is the length of the chunk or feed read, or of the chunk
+                                      written, and 0 for fresh map and count */
+    SEATBOARD_BAD_SIZE = 1,        /* width or height not allowed; 0 */
+    SEATBOARD_BAD_LENGTH = 2,      /* a lent picture or map is not of the exact length; 0 */
+    SEATBOARD_CHUNK_SHORT = 3,     /* chunk under 4 bytes; 0 */
+    SEATBOARD_LENGTH_DIFFERS = 4,  /* the chunk's stated length differs from the bytes given; 0 */
+    SEATBOARD_BLOCKS_REMAIN = 5,   /* bytes end before an opcode, blocks remain; the chunk's length */
+    SEATBOARD_OPCODE_CUT = 6,      /* bytes end inside an opcode; that opcode */
+    SEATBOARD_OPCODE_UNKNOWN = 7,  /* opcode F; that opcode */
+    SEATBOARD_NONE_BEFORE = 8,     /* a copy with no such block before; that opcode */
+    SEATBOARD_PAST_LAST_BLOCK = 9, /* an opcode runs past the last block; that opcode */
+    SEATBOARD_ENTRY_EMPTY = 10,    /* a table's entry that was not filled in this chunk; that opcode */
+    SEATBOARD_BYTES_FOLLOW = 11,   /* bytes follow the last block; the first such byte */
+    SEATBOARD_BAD_VARINT = 12,     /* a number of the feed is badly formed; that number */
+    SEATBOARD_FEED_CUT = 13,       /* the feed ends inside a number or a chunk; the number, or the chunk's first byte */
+    SEATBOARD_OUTPUT_SHORT = 14    /* the output is shorter than the chunk; 0 */
+};
+
+struct seatboard_size {
+    size_t width, height; /* in pixels */
+};
+
+struct seatboard_answer {
+    uint8_t number; /* one of the above */
+    size_t place;
+};
+
+struct seatboard_count {
+    struct seatboard_answer answer;
+    size_t unsettled; /* 0 where the count was refused */
+};
+
+/* Makes a fresh map: entry k is k. Answers 0, 1 or 2. */
+struct seatboard_answer seatboard_fresh_map(struct seatboard_size size, uint16_t *map, size_t map_length);
+
+/* Counts the entries that are not SEATBOARD_SETTLED. Answers 0, 1 or 2. */
+struct seatboard_count seatboard_count(struct seatboard_size size, const uint16_t *map, size_t map_length);
+
+/* Reads a chunk over a picture and its map. The chunk is checked whole before anything is painted. Answers 0 to 11. */
+struct seatboard_answer seatboard_read_chunk(struct seatboard_size size, const uint8_t *chunk, size_t chunk_length,
+                                             uint8_t *picture, size_t picture_length, uint16_t *map, size_t map_length);
+
+/* Writes the chunk that makes the new picture out of the old one to the start of the output, and leaves the rest of the
+ * output as it was. SEATBOARD_LONGEST_CHUNK bytes always suffice; with fewer the chunk is measured first, which takes
+ * about as long again. Answers 0, 1, 2 or 14. */
+struct seatboard_answer seatboard_write_chunk(struct seatboard_size size, const uint8_t *old_picture, size_t old_length,
+                                              const uint8_t *new_picture, size_t new_length, uint8_t *output,
+                                              size_t output_length);
+
+/* Walks a feed, which begins with its size, over a picture and its map: each chunk in turn, as by seatboard_read_chunk.
+ * A refused chunk changes nothing and does not end the walk. Answers 0, 1, 2, 12 or 13; a walk that ends in 12 or 13
+ * leaves what the chunks accepted before that made. */
+struct seatboard_answer seatboard_walk_feed(const uint8_t *feed, size_t feed_length, uint8_t *picture,
+                                            size_t picture_length, uint16_t *map, size_t map_length);
+
+#ifdef __cplusplus
+}
+#endif
+
+#endif

@@ -1,0 +1,216 @@
+//! The proved picture codec of the seat boards, for Rust programs: SMC chunks read and written, the
+//! map that says which blocks of a picture can be trusted, and the walk of the house feed.
+//!
+//! Slices in, a [`Result`] out, nothing `unsafe` for the caller, no allocation, no panic. Any bytes
+//! and any lengths may be lent. A refused call leaves all that it was lent as it was, but for a
+//! walk that ends in [`Reason::BadVarint`] or [`Reason::FeedCut`]: it leaves what the chunks
+//! accepted before that made.
+//!
+//! ```
+//! # fn main() -> Result<(), seatboard::Refused> {
+//! use seatboard::Size;
+//!
+//! let size = Size { width: 8, height: 4 };
+//! let mut picture = vec![0; size.pixels()];
+//! let mut map = vec![0; size.blocks()];
+//! seatboard::fresh_map(size, &mut map)?;
+//!
+//! let chunk = [0xE1, 0, 0, 6, 0x61, 5]; // two blocks of colour 5
+//! seatboard::read_chunk(size, &chunk, &mut picture, &mut map)?;
+//! assert_eq!(picture, [5; 32]);
+//! assert_eq!(seatboard::count_unsettled(size, &map)?, 0);
+//! # Ok(())
+//! # }
+//! ```
+
+use std::error::Error;
+use std::fmt::{self, Display, Formatter};
+
+pub mod exact;
+
+/// The map's entry of a settled block: its pixels do not depend on the starting picture. Any other
+/// entry is the number of a block of the starting picture, whose pixels the block shows.
+pub const SETTLED: u16 = 65_535;
+
+/// A picture's width and height in pixels: multiples of 4, at most 320 and 200. Other sizes may be
+/// given; every call refuses them.
+#[repr(C)]
+#[derive(Clone, Copy, Debug, PartialEq, Eq)]
+pub struct Size {
+    pub width: usize,
+    pub height: usize,
+}
+
+impl Size {
+    /// A picture's length in bytes, one a pixel, row after row; of an allowed size.
+    pub const fn pixels(self) -> usize {
+        self.width.saturating_mul(self.height)
+    }
+
+    /// A map's length in entries, one for each block of 4 by 4 pixels; of an allowed size.
+    pub const fn blocks(self) -> usize {
+        self.pixels() / 16
+    }
+
+    /// An output of this length holds whatever chunk the writer writes; of an allowed size.
+    pub const fn longest_chunk(self) -> usize {
+        self.blocks().saturating_mul(17).saturating_add(4)
+    }
+}
+
+/// What an accepted chunk, feed or write tells.
+#[derive(Clone, Copy, Debug, PartialEq, Eq)]
+#[non_exhaustive]
+pub struct Accepted {
+    /// The length of the chunk or feed that was read, or of the chunk that was written.
+    pub length: usize,
+}
+
+/// Why a call was refused, and where.
+#[derive(Clone, Copy, Debug, PartialEq, Eq)]
+#[non_exhaustive]
+pub struct Refused {
+    pub reason: Reason,
+    /// The byte of the chunk, or for 12 and 13 of the feed, at which it was found; 0 for the reasons
+    /// that have no place.
+    pub place: usize,
+}
+
+/// The numbered refusals.
+#[derive(Clone, Copy, Debug, PartialEq, Eq)]
+#[non_exhaustive]
+#[repr(u8)]
+pub enum Reason {
+    /// Width or height is not allowed.
+    BadSize = 1,
+    /// A lent picture or map is not of the exact length.
+    BadLength = 2,
+    /// The chunk has fewer than 4 bytes.
+    ChunkShort = 3,
+    /// The length that the chunk states differs from the bytes given.
+    LengthDiffers = 4,
+    /// The bytes end before an opcode, and blocks remain.
+    BlocksRemain = 5,
+    /// The bytes end inside an opcode.
+    OpcodeCut = 6,
+    /// Opcode F.
+    OpcodeUnknown = 7,
+    /// A copy with no such block before.
+    NoneBefore = 8,
+    /// An opcode runs past the last block.
+    PastLastBlock = 9,
+    /// A table's entry that was not filled in this chunk.
+    EntryEmpty = 10,
+    /// Bytes follow the last block.
+    BytesFollow = 11,
+    /// A number of the feed is badly formed.
+    BadVarint = 12,
+    /// The feed ends inside a number or a chunk.
+    FeedCut = 13,
+    /// The output is shorter than the chunk.
+    OutputShort = 14,
+}
+
+impl Reason {
+    /// In the order of their numbers, from 1.
+    pub const ALL: [Reason; 14] = [
+        Reason::BadSize,
+        Reason::BadLength,
+        Reason::ChunkShort,
+        Reason::LengthDiffers,
+        Reason::BlocksRemain,
+        Reason::OpcodeCut,
+        Reason::OpcodeUnknown,
+        Reason::NoneBefore,
+        Reason::PastLastBlock,
+        Reason::EntryEmpty,
+        Reason::BytesFollow,
+        Reason::BadVarint,
+        Reason::FeedCut,
+        Reason::OutputShort,
+    ];
+
+    pub const fn number(self) -> u8 {
+        self as u8
+    }
+}
+
+impl Display for Reason {
+    fn fmt(&self, out: &mut Formatter) -> fmt::Result {
+        out.write_str(match self {
+            Reason::BadSize => "width or height not allowed",
+            Reason::BadLength => "a lent picture or map is not of the exact length",
+            Reason::ChunkShort => "chunk under 4 bytes",
+            Reason::LengthDiffers => "stated length differs from the bytes given",
+            Reason::BlocksRemain => "bytes end before an opcode, blocks remain",
+            Reason::OpcodeCut => "bytes end inside an opcode",
+            Reason::OpcodeUnknown => "opcode F",
+            Reason::NoneBefore => "copy with no such block before",
+            Reason::PastLastBlock => "opcode runs past the last block",
+            Reason::EntryEmpty => "entry not filled in this chunk",
+            Reason::BytesFollow => "bytes follow the last block",
+            Reason::BadVarint => "feed number badly formed",
+            Reason::FeedCut => "feed ends inside a number or a chunk",
+            Reason::OutputShort => "output too short",
+        })
+    }
+}
+
+impl Display for Refused {
+    fn fmt(&self, out: &mut Formatter) -> fmt::Result {
+        let Refused { reason, place } = self;
+        write!(out, "{} at {place}: {reason}", reason.number())
+    }
+}
+
+impl Error for Refused {}
+
+/// Makes a fresh map: entry k is k.
+pub fn fresh_map(size: Size, map: &mut [u16]) -> Result<(), Refused> {
+    accepted(exact::fresh_map(size, map)).map(|_| ())
+}
+
+/// How many entries of a map are not settled.
+pub fn count_unsettled(size: Size, map: &[u16]) -> Result<usize, Refused> {
+    let count = exact::count(size, map);
+    accepted(count.answer).map(|_| count.unsettled)
+}
+
+/// Reads a chunk over a picture and its map: checked whole before anything is painted.
+pub fn read_chunk(
+    size: Size,
+    chunk: &[u8],
+    picture: &mut [u8],
+    map: &mut [u16],
+) -> Result<Accepted, Refused> {
+    accepted(exact::read_chunk(size, chunk, picture, map))
+}
+
+/// Writes the chunk that makes the new picture out of the old one to the start of the output. The
+/// output after it is untouched. [`Size::longest_chunk`] bytes always suffice, and with them the
+/// write is quickest.
+pub fn write_chunk(
+    size: Size,
+    old: &[u8],
+    new: &[u8],
+    output: &mut [u8],
+) -> Result<Accepted, Refused> {
+    accepted(exact::write_chunk(size, old, new, output))
+}
+
+/// Walks a feed, which tells its own size, over a picture and its map. A refused chunk changes
+/// nothing and does not end the walk.
+pub fn walk_feed(feed: &[u8], picture: &mut [u8], map: &mut [u16]) -> Result<Accepted, Refused> {
+    accepted(exact::walk_feed(feed, picture, map))
+}
+
+fn accepted(exact::Answer { number, place }: exact::Answer) -> Result<Accepted, Refused> {
+    match number {
+        0 => Ok(Accepted { length: place }),
+        // the library gives no other number: its contracts say so
+        refused => Err(Refused {
+            reason: Reason::ALL[usize::from(refused) - 1],
+            place,
+        }),
+    }
+}
