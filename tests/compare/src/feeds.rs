@@ -118,7 +118,7 @@ fn in_blocks(size: Size) -> (usize, usize) {
 }
 
 /// Chunks for that size; the feed states it or another, and the buffers need not fit.
-fn any_case(random: &mut Random, size: Size) -> FeedCase {
+pub fn any_case(random: &mut Random, size: Size) -> FeedCase {
     let right = in_blocks(size);
     let (stated, board) = match random.below(32) {
         0..=3 => {

@@ -37,7 +37,9 @@ mod program_cases;
 mod random;
 mod replay;
 mod report;
+mod sequences;
 mod tally;
+mod two_boards;
 mod write_examples;
 mod write_tally;
 
@@ -50,13 +52,17 @@ use feed_tally::FeedTally;
 use feeds::FeedCase;
 use generate::{Board, Case};
 use pictures::WriteCase;
-use replay::{board_in_short, case_in_short, feed_in_short, write_in_short, Replay};
+use replay::{
+    board_in_short, case_in_short, feed_in_short, sequence_in_short, write_in_short, Replay,
+};
 use report::{compare_each, Report};
+use sequences::Sequence;
 use tally::{Numbers, Tally, Things};
 use write_tally::WriteTally;
 
 const BOARDS: u64 = 20_000;
-const WRITES: u64 = 24_000;
+const WRITES: u64 = 40_000;
+const SEQUENCES: u64 = 20_000;
 /// How often a thing must occur for the comparison to count as having tried it.
 const ENOUGH: usize = 100;
 /// The same for the feeds that the board program is run on, which are fewer.
@@ -74,7 +80,8 @@ fn main() -> ExitCode {
         Ok(options) => options,
         Err(why) => {
             eprintln!(
-                "{why}; known are --seed, --chunks, --feeds, --case, --feed, --write and --listing"
+                "{why}; known are --seed, --chunks, --feeds, --case, --feed, --write, --listing and \
+                 --sequence"
             );
             return ExitCode::from(2);
         }
@@ -89,7 +96,8 @@ fn main() -> ExitCode {
         ..
     } = options;
     println!(
-        "seed {seed}, {chunks} chunks, {BOARDS} maps, {feeds} feeds, {WRITES} writes, {} listings",
+        "seed {seed}, {chunks} chunks, {BOARDS} maps, {feeds} feeds, {WRITES} writes, {} listings, \
+         {SEQUENCES} sequences on two boards",
         listings::FEEDS
     );
     let mut report = Report::default();
@@ -97,6 +105,7 @@ fn main() -> ExitCode {
     check_walks(&options, &mut report);
     check_writes(seed, &mut report);
     check_program(seed, &mut report);
+    check_two_boards(seed, &mut report);
     println!("{} passed, {} failed", report.passed, report.failed);
     if report.failed == 0 {
         ExitCode::SUCCESS
@@ -191,10 +200,24 @@ fn check_program(seed: u64, report: &mut Report) {
     report.check_counts("listings", ENOUGH_LISTINGS, things.counts());
 }
 
+fn check_two_boards(seed: u64, report: &mut Report) {
+    let mut tally = two_boards::Tally::default();
+    let sequences = (0..SEQUENCES).map(|number| sequences::case(seed, number));
+    let contradictions = |sequence: &Sequence| {
+        let (contradictions, things) = two_boards::check(sequence);
+        tally.add(things);
+        contradictions
+    };
+    let name = format!("seed {seed}, sequence");
+    let claim = compare_each(&name, sequences, contradictions, sequence_in_short);
+    report.check("two boards: demand 3", claim);
+    report.check_counts("two boards", ENOUGH, tally.counts());
+}
+
 fn options() -> Result<Options, String> {
     let mut options = Options {
         seed: 1,
-        chunks: 120_000,
+        chunks: 240_000,
         feeds: 40_000,
         replay: None,
     };
@@ -210,6 +233,7 @@ fn options() -> Result<Options, String> {
             "--feed" => options.replay = Some(Replay::Feed(value)),
             "--write" => options.replay = Some(Replay::Write(value)),
             "--listing" => options.replay = Some(Replay::Listing(value)),
+            "--sequence" => options.replay = Some(Replay::Sequence(value)),
             _ => return Err(format!("{name} is not known")),
         }
     }

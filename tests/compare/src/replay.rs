@@ -1,4 +1,4 @@
-//! One chunk, feed, write or listing of a run again, with all of it printed.
+//! One chunk, feed, write, listing or sequence of a run again, with all of it printed.
 
 use std::process::ExitCode;
 
@@ -10,6 +10,8 @@ use crate::feeds::{self, FeedCase};
 use crate::generate::{self, Board, Case};
 use crate::pictures::{self, WriteCase};
 use crate::program::{self, Handed};
+use crate::sequences::{self, Call, Sequence};
+use crate::two_boards;
 
 #[derive(Clone, Copy)]
 pub enum Replay {
@@ -17,6 +19,7 @@ pub enum Replay {
     Feed(u64),
     Write(u64),
     Listing(u64),
+    Sequence(u64),
 }
 
 impl Replay {
@@ -26,6 +29,7 @@ impl Replay {
             Replay::Feed(number) => feed(seed, number),
             Replay::Write(number) => write(seed, number),
             Replay::Listing(number) => listing(seed, number),
+            Replay::Sequence(number) => sequence(seed, number),
         };
         for difference in &differences {
             println!("{difference}");
@@ -84,6 +88,22 @@ fn listing(seed: u64, number: u64) -> Vec<String> {
     }
 }
 
+fn sequence(seed: u64, number: u64) -> Vec<String> {
+    let sequence = sequences::case(seed, number);
+    let short = sequence_in_short(&sequence);
+    println!("seed {seed}, sequence {number}: {short}");
+    for start in &sequence.starts {
+        println!("starting picture {start:?}");
+    }
+    for call in &sequence.calls {
+        match call {
+            Call::Read(chunk) => println!("chunk {chunk:02X?}"),
+            Call::Walk(feed) => println!("feed {feed:02X?}"),
+        }
+    }
+    two_boards::check(&sequence).0
+}
+
 fn print_board(name: &str, board: &Board) {
     println!("{name}: {}", board_in_short(board));
     println!("picture {:?}", board.picture);
@@ -113,6 +133,11 @@ pub fn write_in_short(WriteCase { board, new, output }: &WriteCase) -> String {
         "{}, {pixels} new pixels, output of {bytes} bytes",
         board_in_short(board)
     )
+}
+
+pub fn sequence_in_short(sequence: &Sequence) -> String {
+    let Size { width, height } = sequence.size;
+    format!("{width}x{height}, {} calls", sequence.calls.len())
 }
 
 fn bytes_in_short(bytes: &[u8]) -> String {

@@ -1,0 +1,125 @@
+//! Every refusal through the wrapper: its reason, number and place, and the buffers as they were.
+
+use seatboard::{exact, Reason, Refused, Size};
+
+const SIZE: Size = Size {
+    width: 8,
+    height: 4,
+};
+const LONE: Size = Size {
+    width: 4,
+    height: 4,
+};
+const WRONG: Size = Size {
+    width: 6,
+    height: 4,
+};
+
+fn refused<T>(answer: Result<T, Refused>) -> (Reason, usize) {
+    let refused = answer.err().expect("refused");
+    (refused.reason, refused.place)
+}
+
+/// Reads over a picture of zeros and a fresh map, which must stay so.
+fn read_refused(size: Size, chunk: &[u8]) -> (Reason, usize) {
+    let mut picture = vec![0; size.pixels()];
+    let mut map: Vec<u16> = (0..size.blocks() as u16).collect();
+    let before = (picture.clone(), map.clone());
+    let answer = refused(seatboard::read_chunk(size, chunk, &mut picture, &mut map));
+    assert_eq!((picture, map), before);
+    answer
+}
+
+#[test]
+fn chunks_are_refused_by_their_numbers() {
+    let cases: [(&[u8], Reason, usize); 9] = [
+        (&[], Reason::ChunkShort, 0),
+        (&[0xE1, 0, 0, 7, 0x60, 5], Reason::LengthDiffers, 0),
+        (&[0xE1, 0, 0, 4], Reason::BlocksRemain, 4),
+        (&[0xE1, 0, 0, 5, 0x10], Reason::OpcodeCut, 4),
+        (&[0xE1, 0, 0, 5, 0xF0], Reason::OpcodeUnknown, 4),
+        (&[0xE1, 0, 0, 5, 0x20], Reason::NoneBefore, 4),
+        (&[0xE1, 0, 0, 5, 0x01], Reason::PastLastBlock, 4),
+        (&[0xE1, 0, 0, 6, 0x90, 0], Reason::EntryEmpty, 4),
+        (&[0xE1, 0, 0, 6, 0x00, 0xAA], Reason::BytesFollow, 5),
+    ];
+    for (chunk, reason, place) in cases {
+        assert_eq!(read_refused(LONE, chunk), (reason, place));
+    }
+    assert_eq!(read_refused(WRONG, &[]), (Reason::BadSize, 0));
+}
+
+#[test]
+fn maps_are_refused_by_size_and_length() {
+    let map = &mut [7; 2];
+    assert_eq!(
+        refused(seatboard::fresh_map(WRONG, map)),
+        (Reason::BadSize, 0)
+    );
+    assert_eq!(
+        refused(seatboard::fresh_map(LONE, map)),
+        (Reason::BadLength, 0)
+    );
+    assert_eq!(
+        refused(seatboard::count_unsettled(SIZE, &[])),
+        (Reason::BadLength, 0)
+    );
+    assert_eq!(*map, [7; 2]);
+}
+
+#[test]
+fn feeds_are_refused_where_they_are_cut() {
+    let walk = |feed: &[u8]| {
+        let (mut picture, mut map) = ([0; 32], [0, 1]);
+        let answer = refused(seatboard::walk_feed(feed, &mut picture, &mut map));
+        (answer, picture[31], map)
+    };
+    assert_eq!(walk(&[2, 0x80, 0]), ((Reason::BadVarint, 1), 0, [0, 1]));
+    assert_eq!(walk(&[2]), ((Reason::FeedCut, 1), 0, [0, 1]));
+    // what was accepted before the end stays
+    let cut = [2, 1, 6, 0xE1, 0, 0, 6, 0x61, 5, 1];
+    assert_eq!(walk(&cut), ((Reason::FeedCut, 10), 5, [65_535; 2]));
+}
+
+#[test]
+fn a_write_needs_room() {
+    let (old, new) = ([0; 32], [5; 32]);
+    let mut output = [0xAA; 6];
+    let short = seatboard::write_chunk(SIZE, &old, &new, &mut output[..5]);
+    assert_eq!(refused(short), (Reason::OutputShort, 0));
+    assert_eq!(output, [0xAA; 6]);
+    let written = seatboard::write_chunk(SIZE, &old, &new, &mut output);
+    assert_eq!(written.map(|accepted| accepted.length), Ok(6));
+    assert_eq!(output, [0xE1, 0, 0, 6, 0x61, 5]);
+}
+
+#[test]
+fn the_longest_chunk_has_room() {
+    let size = Size {
+        width: 320,
+        height: 200,
+    };
+    let old = vec![0; size.pixels()];
+    // every block of sixteen colours
+    let new: Vec<u8> = (0..size.pixels())
+        .map(|pixel| (pixel / size.width % 4 * 4 + pixel % 4) as u8 + 1)
+        .collect();
+    let mut output = vec![0; size.longest_chunk()];
+    let written = seatboard::write_chunk(size, &old, &new, &mut output);
+    assert_eq!(written.map(|accepted| accepted.length), Ok(output.len()));
+}
+
+#[test]
+fn reasons_are_in_the_order_of_their_numbers() {
+    let numbers: Vec<u8> = Reason::ALL.iter().map(|reason| reason.number()).collect();
+    assert_eq!(numbers, Vec::from_iter(1..=14));
+}
+
+#[test]
+fn a_refusal_says_number_place_and_meaning() {
+    let answer = exact::read_chunk(LONE, &[0xE1, 0, 0, 5, 0xF0], &mut [0; 16], &mut [0]);
+    assert_eq!((answer.number, answer.place), (7, 4));
+    let refused = seatboard::read_chunk(LONE, &[0xE1, 0, 0, 5, 0xF0], &mut [0; 16], &mut [0]);
+    let said = refused.err().map(|refused| refused.to_string());
+    assert_eq!(said.as_deref(), Some("7 at 4: opcode F"));
+}

@@ -1,0 +1,148 @@
+//! Demand 3 by brute force, through the wrapper: one sequence of calls on two boards whose starting
+//! pictures differ in every block.
+//!
+//! That they differ in every block makes two pictures enough for both directions of "settled
+//! exactly when": a block that shows one and the same block of either start shows different pixels
+//! on the two boards, and one that shows the same pixels on both comes from neither start.
+
+use seatboard::{Accepted, Refused, Size, SETTLED};
+use second::reader::pixel_blocks;
+
+use crate::sequences::{Call, Sequence};
+use crate::tally::{Thing, Things};
+
+type Answered = Result<Accepted, Refused>;
+
+/// What a sequence left and told.
+struct Ran {
+    answers: Vec<Answered>,
+    picture: Vec<u8>,
+    map: Vec<u16>,
+    /// The count, at first and after each call.
+    counts: Vec<usize>,
+}
+
+/// What contradicts the claim, with the things that the sequence had.
+pub fn check(sequence: &Sequence) -> (Vec<String>, [Thing; 11]) {
+    let ran = [0, 1].map(|board| run(sequence, board));
+    let [first, second] = match ran {
+        [Ok(first), Ok(second)] => [first, second],
+        [Err(refused), _] | [_, Err(refused)] => {
+            return (vec![format!("{refused}")], Default::default());
+        }
+    };
+    let mut wrong = unequal(&first, &second);
+    wrong.extend(wrong_blocks(sequence, &first, &second));
+    (wrong, things(sequence, &first))
+}
+
+/// Fails only where a fresh map or a count does, at a size that is allowed.
+fn run(sequence: &Sequence, board: usize) -> Result<Ran, Refused> {
+    let size = sequence.size;
+    let mut picture = sequence.starts[board].clone();
+    let mut map = sequence.maps[board].clone();
+    seatboard::fresh_map(size, &mut map)?;
+    let mut counts = vec![seatboard::count_unsettled(size, &map)?];
+    let mut answers = Vec::new();
+    for call in &sequence.calls {
+        answers.push(match call {
+            Call::Read(chunk) => seatboard::read_chunk(size, chunk, &mut picture, &mut map),
+            Call::Walk(feed) => seatboard::walk_feed(feed, &mut picture, &mut map),
+        });
+        counts.push(seatboard::count_unsettled(size, &map)?);
+    }
+    Ok(Ran {
+        answers,
+        picture,
+        map,
+        counts,
+    })
+}
+
+fn unequal(first: &Ran, second: &Ran) -> Vec<String> {
+    let mut wrong = Vec::new();
+    for (call, (one, other)) in first.answers.iter().zip(&second.answers).enumerate() {
+        if one != other {
+            wrong.push(format!("call {call}: {one:?} and {other:?}"));
+        }
+    }
+    if first.map != second.map {
+        wrong.push(format!("maps {:?} and {:?}", first.map, second.map));
+    }
+    if first.counts != second.counts {
+        wrong.push(format!("counts {:?} and {:?}", first.counts, second.counts));
+    }
+    let unsettled = first.map.iter().filter(|entry| **entry != SETTLED).count();
+    if first.counts.last() != Some(&unsettled) {
+        wrong.push(format!("{:?} counted, {unsettled} there", first.counts));
+    }
+    wrong
+}
+
+fn wrong_blocks(sequence: &Sequence, first: &Ran, second: &Ran) -> Vec<String> {
+    let blocks = |picture: &[u8]| pixel_blocks(sequence.size.width, picture);
+    let [starts, other_starts] = [0, 1].map(|board| blocks(&sequence.starts[board]));
+    let [shown, other_shown] = [first, second].map(|ran| blocks(&ran.picture));
+    let named = |entry: u16| {
+        let entry = usize::from(entry);
+        Some((*starts.get(entry)?, *other_starts.get(entry)?))
+    };
+    let wrong = |(block, entry): (usize, u16)| {
+        let shows = (shown[block], other_shown[block]);
+        let same = shows.0 == shows.1;
+        match (entry, same) {
+            (SETTLED, true) => None,
+            (SETTLED, false) => Some(format!("block {block}: settled, and not the same")),
+            (_, true) => Some(format!("block {block}: the same, and not settled")),
+            (_, false) if named(entry) == Some(shows) => None,
+            (_, false) => Some(format!(
+                "block {block} does not show starting block {entry}"
+            )),
+        }
+    };
+    let entries = first.map.iter().copied().enumerate();
+    entries.filter_map(wrong).collect()
+}
+
+/// What a sequence has, so that a run which missed something says so.
+fn things(sequence: &Sequence, ran: &Ran) -> [Thing; 11] {
+    let Size { width, height } = sequence.size;
+    let calls = || sequence.calls.iter().zip(&ran.answers);
+    let read = |accepted| {
+        move |(call, answer): (&Call, &Answered)| {
+            matches!(call, Call::Read(_)) && answer.is_ok() == accepted
+        }
+    };
+    let walked = |numbers: &'static [u8]| {
+        move |(call, answer): (&Call, &Answered)| {
+            let number = answer.map_or_else(|refused| refused.reason.number(), |_| 0);
+            matches!(call, Call::Walk(_)) && numbers.contains(&number)
+        }
+    };
+    let moved = |(block, entry): (usize, &u16)| *entry != SETTLED && usize::from(*entry) != block;
+    let left = *ran.counts.last().unwrap_or(&0);
+    [
+        ("sequences without a call", sequence.calls.is_empty()),
+        ("sequences with an accepted chunk", calls().any(read(true))),
+        ("sequences with a refused chunk", calls().any(read(false))),
+        ("with a walk that got 0", calls().any(walked(&[0]))),
+        ("with a walk that got 1 or 2", calls().any(walked(&[1, 2]))),
+        ("with a walk that got 12", calls().any(walked(&[12]))),
+        ("with a walk that got 13", calls().any(walked(&[13]))),
+        (
+            "with a count that rises",
+            ran.counts.windows(2).any(|two| two[0] < two[1]),
+        ),
+        (
+            "with a block moved, at the end",
+            ran.map.iter().enumerate().any(moved),
+        ),
+        ("with all blocks settled at the end", left == 0),
+        (
+            "with some settled and some not",
+            left > 0 && left < width * height / 16,
+        ),
+    ]
+}
+
+pub type Tally = Things<11>;
