@@ -28,6 +28,11 @@ use std::fmt::{self, Display, Formatter};
 
 pub mod exact;
 
+/// The README's lines, so that they are tested too.
+#[cfg(doctest)]
+#[doc = include_str!("../../../README.md")]
+struct Readme;
+
 /// The map's entry of a settled block: its pixels do not depend on the starting picture. Any other
 /// entry is the number of a block of the starting picture, whose pixels the block shows.
 pub const SETTLED: u16 = 65_535;
