@@ -8,20 +8,25 @@ const ROUNDS: usize = 41;
 /// About how long a contestant's turn in a round is.
 const TURN: Duration = Duration::from_millis(20);
 
+pub const FFMPEG: &str = "FFmpeg";
+
 pub trait Contestant {
     fn name(&self) -> &'static str;
 
     /// Does one of the pieces of work, which are done in order and over again: what is timed.
     fn work(&mut self, piece: usize);
 
-    /// The picture that the piece of work done last has made: what contestants are compared by.
-    fn picture(&self, piece: usize) -> Vec<u8>;
+    /// What that piece of work, done last, has made: what contestants are compared by.
+    fn made(&self, piece: usize) -> Made;
+}
+
+pub struct Made {
+    pub picture: Vec<u8>,
+    /// The length of the chunk or feed that was read or written.
+    pub bytes: usize,
 }
 
 pub struct Contest {
-    /// As `--count` names it.
-    pub name: &'static str,
-    /// What is done, in the words of the report.
     pub title: String,
     /// How many pieces of work there are, how many chunks in all of them, and how many bytes of
     /// pixels or feed.
@@ -30,6 +35,8 @@ pub struct Contest {
     pub bytes: usize,
     /// How many times as fast as FFmpeg the library is to be.
     pub aim: Option<f64>,
+    /// Whether FFmpeg must make our pictures: the others must in any case.
+    pub strict: bool,
     /// Ours first.
     pub contestants: Vec<Box<dyn Contestant>>,
 }
@@ -41,52 +48,45 @@ pub struct Spread {
     pub highest: f64,
 }
 
+/// What a contestant has made of all pieces of work.
+#[derive(Default)]
+pub struct Compared {
+    /// How many of the pictures are the same as ours.
+    pub same: usize,
+    /// Chunks or feeds, all together.
+    pub bytes: usize,
+}
+
 pub struct Measured {
     pub name: &'static str,
-    /// For all pieces of work once.
+    pub compared: Compared,
+    /// For all pieces of work once: the median.
     pub seconds: f64,
-    /// How many times as long as ours, in the same round; not of ours.
-    pub against_ours: Option<Spread>,
+    /// How many times as long as ours in the same round.
+    pub against_ours: Spread,
 }
 
 impl Contest {
-    /// For each contestant, after how many pieces of work its picture was the same as ours.
-    pub fn agreeing(&mut self) -> Vec<(&'static str, usize)> {
-        let names = self.contestants.iter().map(|who| who.name());
-        let mut agreeing: Vec<_> = names.map(|name| (name, 0)).collect();
-        for piece in 0..self.pieces {
-            self.contestants.iter_mut().for_each(|who| who.work(piece));
-            let ours = self.contestants[0].picture(piece);
-            for (who, (_, count)) in self.contestants.iter().zip(&mut agreeing) {
-                *count += usize::from(who.picture(piece) == ours);
+    /// Compares, and then measures.
+    pub fn run(&mut self) -> Result<Vec<Measured>, String> {
+        let compared = self.compare();
+        for (who, compared) in self.contestants.iter().zip(&compared) {
+            let excused = who.name() == FFMPEG && !self.strict;
+            if compared.same < self.pieces && !excused {
+                let [title, name] = [&self.title, who.name()];
+                return Err(format!("{title}: {name} makes other pictures than ours"));
             }
         }
-        agreeing
-    }
-
-    pub fn measure(&mut self) -> Vec<Measured> {
-        let contestants = self.contestants.len();
-        let passes: Vec<_> = (0..contestants)
-            .map(|who| self.passes_in_turn(who))
-            .collect();
-        let mut seconds = vec![Vec::with_capacity(ROUNDS); contestants];
-        for round in 0..ROUNDS {
-            // Each is first, second and so on equally often.
-            for turn in 0..contestants {
-                let who = (round + turn) % contestants;
-                let turn = self.time(who, passes[who]);
-                seconds[who].push(turn.as_secs_f64() / f64::from(passes[who]));
-            }
-        }
-        let names = self.contestants.iter().map(|who| who.name());
-        let measured = names.zip(&seconds).map(|(name, theirs)| Measured {
-            name,
-            seconds: spread(theirs.clone()).median,
-            against_ours: Some(spread(ratios(theirs, &seconds[0]))),
-        });
-        let mut measured: Vec<_> = measured.collect();
-        measured[0].against_ours = None;
-        measured
+        let seconds = self.measure();
+        let measured = self.contestants.iter().zip(compared).zip(&seconds);
+        Ok(measured
+            .map(|((who, compared), theirs)| Measured {
+                name: who.name(),
+                compared,
+                seconds: spread(theirs.clone()).median,
+                against_ours: spread(ratios(theirs, &seconds[0])),
+            })
+            .collect())
     }
 
     /// All pieces of work, so many times.
@@ -97,13 +97,46 @@ impl Contest {
         }
     }
 
+    fn compare(&mut self) -> Vec<Compared> {
+        let contestants = self.contestants.iter();
+        let mut compared: Vec<_> = contestants.map(|_| Compared::default()).collect();
+        for piece in 0..self.pieces {
+            self.contestants.iter_mut().for_each(|who| who.work(piece));
+            let ours = self.contestants[0].made(piece);
+            for (who, compared) in self.contestants.iter().zip(&mut compared) {
+                let theirs = who.made(piece);
+                compared.same += usize::from(theirs.picture == ours.picture);
+                compared.bytes += theirs.bytes;
+            }
+        }
+        compared
+    }
+
+    /// The seconds that all pieces of work took each contestant in each round.
+    fn measure(&mut self) -> Vec<Vec<f64>> {
+        let contestants = self.contestants.len();
+        let passes: Vec<_> = (0..contestants)
+            .map(|who| self.passes_in_turn(who))
+            .collect();
+        let mut seconds = vec![Vec::with_capacity(ROUNDS); contestants];
+        for round in 0..ROUNDS {
+            // Each is first, second and so on about equally often.
+            for turn in 0..contestants {
+                let who = (round + turn) % contestants;
+                let taken = self.time(who, passes[who]).as_secs_f64();
+                seconds[who].push(taken / f64::from(passes[who]));
+            }
+        }
+        seconds
+    }
+
     fn time(&mut self, who: usize, passes: u32) -> Duration {
         let start = Instant::now();
         self.pass(who, passes);
         start.elapsed()
     }
 
-    /// Doubled until a turn is long enough to be told; this also warms everything up.
+    /// Doubled until there is enough to go by; this also warms everything up.
     fn passes_in_turn(&mut self, who: usize) -> u32 {
         let mut passes = 1;
         let mut taken = self.time(who, passes);

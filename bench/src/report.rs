@@ -2,28 +2,34 @@
 
 use std::fs;
 
-use crate::contest::{Contest, Measured, Spread};
-use crate::ffmpeg;
+use crate::beside;
+use crate::contest::{Contest, Measured, Spread, FFMPEG};
+
+const COLUMNS: usize = 9;
+/// Columns of numbers, which stand to the right.
+const NUMBERS: std::ops::Range<usize> = 2..7;
 
 /// The lines that say what the numbers were measured on.
 pub fn print_machine() {
     let processors = fs::read_to_string("/proc/cpuinfo").unwrap_or_default();
     let model = processors
         .lines()
-        .find(|line| line.starts_with("model name"));
-    let model = model.and_then(|line| line.split(": ").nth(1));
-    let kernel = fs::read_to_string("/proc/sys/kernel/osrelease");
-    println!("- Processor: {}", model.unwrap_or("not known"));
-    println!("- Kernel: Linux {}", kernel.unwrap_or_default().trim());
-    println!("- Compiler of the Rust side: {}", env!("BENCH_RUSTC"));
-    println!(
-        "- Beside: {}",
-        ffmpeg::version().unwrap_or("no FFmpeg, which is not installed".into())
-    );
+        .find(|line| line.starts_with("model name"))
+        .and_then(|line| line.split(": ").nth(1));
+    let kernel = fs::read_to_string("/proc/sys/kernel/osrelease").unwrap_or_default();
+    let ffmpeg = beside::version().unwrap_or("no FFmpeg: libavcodec was not there".into());
+    println!("- processor: {}", model.unwrap_or("not known"));
+    println!("- kernel: Linux {}", kernel.trim());
+    println!("- compiler of the Rust packages: {}", env!("BENCH_RUSTC"));
+    println!("- beside: {ffmpeg}");
 }
 
 /// A Markdown table whose columns stand under each other as plain text too.
-pub struct Table(Vec<Vec<String>>);
+pub struct Table {
+    rows: Vec<[String; COLUMNS]>,
+    /// What is said below it.
+    notes: Vec<String>,
+}
 
 impl Table {
     /// `bytes` says which bytes a second are meant.
@@ -31,61 +37,94 @@ impl Table {
         let head = [
             "work",
             "who",
+            "same pictures",
+            "bytes a chunk",
             "µs a chunk",
             "chunks a second",
             &format!("MB of {bytes} a second"),
             "times as long as ours (lowest to highest round)",
             "aim",
         ];
-        Table(vec![head.map(String::from).into()])
+        Table {
+            rows: vec![head.map(String::from)],
+            notes: Vec::new(),
+        }
     }
 
     pub fn add(&mut self, contest: &Contest, measured: &[Measured]) {
-        for (line, measured) in measured.iter().enumerate() {
-            let title = if line == 0 {
-                contest.title.as_str()
-            } else {
-                ""
-            };
-            let seconds = measured.seconds / contest.chunks as f64;
-            let bytes = contest.bytes as f64 / contest.chunks as f64;
-            self.0.push(vec![
-                title.to_string(),
+        let chunks = contest.chunks as f64;
+        for (place, measured) in measured.iter().enumerate() {
+            let of_ours = place == 0;
+            let seconds = measured.seconds;
+            self.rows.push([
+                shown_if(of_ours, contest.title.clone()),
                 measured.name.to_string(),
-                format!("{:.2}", 1e6 * seconds),
-                in_thousands(1.0 / seconds),
-                in_thousands(1e-6 * bytes / seconds),
-                measured
-                    .against_ours
-                    .as_ref()
-                    .map_or_else(String::new, ratio),
-                verdict(contest, measured).unwrap_or_default(),
+                format!("{} of {}", measured.compared.same, contest.pieces),
+                in_thousands(measured.compared.bytes as f64 / chunks),
+                format!("{:.2}", 1e6 * seconds / chunks),
+                in_thousands(chunks / seconds),
+                in_thousands(1e-6 * contest.bytes as f64 / seconds),
+                shown_if(!of_ours, ratio(&measured.against_ours)),
+                verdict(contest, measured),
             ]);
+            if contest.pieces == 1 {
+                let milliseconds = 1e3 * seconds;
+                let [name, all] = [measured.name, &in_thousands(chunks)];
+                let note = format!("All {all} chunks together, {name}: {milliseconds:.2} ms");
+                self.notes.push(note);
+            }
         }
     }
 
-    pub fn print(&self) {
-        let columns = 0..self.0[0].len();
-        let width = |column: usize| self.0.iter().map(|row| row[column].chars().count()).max();
-        let widths: Vec<_> = columns.map(|column| width(column).unwrap_or(0)).collect();
-        for (line, row) in self.0.iter().enumerate() {
-            let cells = row.iter().zip(&widths).enumerate();
-            let cells = cells.map(|(column, (cell, &width))| match column {
-                2..=4 => format!("{cell:>width$}"),
-                _ => format!("{cell:<width$}"),
-            });
-            println!("| {} |", cells.collect::<Vec<_>>().join(" | "));
+    /// Nothing where no row was added.
+    pub fn print(&self, heading: &str) {
+        if self.rows.len() < 2 {
+            return;
+        }
+        println!("\n{heading}:\n");
+        let widest = |column: usize| {
+            self.rows
+                .iter()
+                .map(|row| row[column].chars().count())
+                .max()
+        };
+        let widths: [_; COLUMNS] = std::array::from_fn(|column| widest(column).unwrap_or(0));
+        for (line, row) in self.rows.iter().enumerate() {
+            print_row(|column| padded(&row[column], column, widths[column]));
             if line == 0 {
-                let rules = widths
-                    .iter()
-                    .enumerate()
-                    .map(|(column, width)| match column {
-                        2..=4 => format!("{}:", "-".repeat(width + 1)),
-                        _ => "-".repeat(width + 2),
-                    });
-                println!("|{}|", rules.collect::<Vec<_>>().join("|"));
+                print_row(|column| rule(column, widths[column]));
             }
         }
+        for note in &self.notes {
+            println!("\n{note}");
+        }
+    }
+}
+
+fn padded(cell: &str, column: usize, width: usize) -> String {
+    if NUMBERS.contains(&column) {
+        format!(" {cell:>width$} ")
+    } else {
+        format!(" {cell:<width$} ")
+    }
+}
+
+/// What Markdown wants below the heads.
+fn rule(column: usize, width: usize) -> String {
+    let end = if NUMBERS.contains(&column) { ":" } else { "-" };
+    "-".repeat(width + 1) + end
+}
+
+fn print_row(cell: impl Fn(usize) -> String) {
+    let cells: Vec<_> = (0..COLUMNS).map(cell).collect();
+    println!("|{}|", cells.join("|"));
+}
+
+fn shown_if(shown: bool, text: String) -> String {
+    if shown {
+        text
+    } else {
+        String::new()
     }
 }
 
@@ -99,11 +138,14 @@ fn ratio(spread: &Spread) -> String {
 }
 
 /// The aims are times FFmpeg's speed.
-fn verdict(contest: &Contest, measured: &Measured) -> Option<String> {
-    let aim = contest.aim.filter(|_| measured.name == "FFmpeg")?;
-    let reached = measured.against_ours.as_ref()?.median >= aim;
-    let word = if reached { "reached" } else { "short" };
-    Some(format!("{aim:.1}: {word}"))
+fn verdict(contest: &Contest, measured: &Measured) -> String {
+    match contest.aim {
+        Some(aim) if measured.name == FFMPEG => {
+            let reached = measured.against_ours.median >= aim;
+            format!("{aim:.1}: {}", if reached { "reached" } else { "short" })
+        }
+        _ => String::new(),
+    }
 }
 
 fn in_thousands(number: f64) -> String {

@@ -1,29 +1,19 @@
-//! Stands in for ffmpeg.rs where libavcodec is not installed: there is no decoder to be had.
+//! Stands in for beside.rs where libavcodec is not installed: FFmpeg takes no part.
 
-use seatboard::Size;
+use std::rc::Rc;
+
+use crate::contest::Contestant;
+use crate::readers::Reading;
+use crate::story::Story;
 
 pub fn version() -> Option<String> {
     None
 }
 
-pub enum Packet {}
+pub fn reader(_: &Rc<Reading>) -> Option<Box<dyn Contestant>> {
+    None
+}
 
-pub enum Decoder {}
-
-impl Decoder {
-    pub fn open(_: Size) -> Option<Self> {
-        None
-    }
-
-    pub fn packet(&self, _: &[u8]) -> Packet {
-        match *self {}
-    }
-
-    pub fn decode(&mut self, _: &Packet) {
-        match *self {}
-    }
-
-    pub fn picture(&self) -> Vec<u8> {
-        match *self {}
-    }
+pub fn writer(_: &Rc<Story>) -> Option<Box<dyn Contestant>> {
+    None
 }
