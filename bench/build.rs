@@ -31,15 +31,12 @@ fn build_shim(out: &Path, flags: &str) {
     }
     let object = out.join("ffmpeg.o");
     let archive = out.join("libbench_ffmpeg.a");
+    let headers = flags
+        .split_whitespace()
+        .filter(|flag| !flag.starts_with("-l"));
     let mut compile = Command::new("cc");
-    compile.args(["-O2", "-Wall", "-Wextra", "-Werror", "-c", SHIM, "-o"]);
-    compile.arg(&object);
-    compile.args(
-        flags
-            .split_whitespace()
-            .filter(|flag| !flag.starts_with("-l")),
-    );
-    run(&mut compile);
+    compile.args(["-O2", "-c", SHIM, "-o"]).arg(&object);
+    run(compile.args(headers));
     run(Command::new("ar").arg("crs").arg(&archive).arg(&object));
     println!("cargo:rustc-cfg=ffmpeg");
     println!("cargo:rustc-link-search=native={}", out.display());

@@ -101,7 +101,7 @@ impl Decoder {
 
     pub fn picture(&self) -> Vec<u8> {
         let mut picture = vec![0; self.size.pixels()];
-        // SAFETY: as above, and the decoder was opened for a picture of this size.
+        // SAFETY: as above, and the decoder was opened for this size, which no chunk can change.
         unsafe { bench_copy_decoded(self.coder.0.as_ptr(), picture.as_mut_ptr()) };
         picture
     }

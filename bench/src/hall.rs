@@ -9,6 +9,8 @@ pub const SIZE: Size = Size {
     width: 320,
     height: 200,
 };
+/// The same for the second reader and writer.
+pub const WIDTH_AND_HEIGHT: (usize, usize) = (SIZE.width, SIZE.height);
 const ACROSS: usize = SIZE.width / 4;
 
 /// How many colours a seat's blocks can have, least and most: what the writer tells apart, opcodes
@@ -72,10 +74,8 @@ fn seats() -> Vec<Vec<usize>> {
             seats.extend((first..first + 2 * ACROSS).map(|block| vec![block]));
         } else {
             let corners = (first..first + ACROSS).step_by(2);
-            seats.extend(
-                corners
-                    .map(|corner| vec![corner, corner + 1, corner + ACROSS, corner + ACROSS + 1]),
-            );
+            let square = |corner| vec![corner, corner + 1, corner + ACROSS, corner + ACROSS + 1];
+            seats.extend(corners.map(square));
         }
     }
     seats

@@ -37,6 +37,11 @@ use report::Table;
 /// Every run measures the same work.
 const SEED: u64 = 1;
 
+/// How many blocks change.
+const ALL: usize = hall::SIZE.blocks();
+const HALF: usize = ALL / 2;
+const FEW: usize = ALL / 20;
+
 /// The heading, which bytes a second are told, and the works.
 const SECTIONS: [(&str, &str, &[&str]); 3] = [
     ("Reading a chunk, 320x200", "pixels", &["a", "b", "c"]),
@@ -50,13 +55,13 @@ const SECTIONS: [(&str, &str, &[&str]); 3] = [
 
 fn contest(work: &str) -> Result<Contest, String> {
     Ok(match work {
-        "a" => readers::changes("a: 5 % of the blocks changed", 200, 2.5),
-        "b" => readers::changes("b: half of the blocks changed", 2_000, 1.5),
+        "a" => readers::changes("a: 5 % of the blocks changed", FEW, 2.5),
+        "b" => readers::changes("b: half of the blocks changed", HALF, 1.5),
         "c" => readers::dense("c: every opcode", 1.5),
         "d1" => writers::contest("d1: equal pictures", 0, 2.0),
-        "d2" => writers::contest("d2: 5 % of the blocks changed", 200, 2.0),
-        "d3" => writers::contest("d3: half of the blocks changed", 2_000, 2.0),
-        "d4" => writers::contest("d4: all blocks changed", 4_000, 2.0),
+        "d2" => writers::contest("d2: 5 % of the blocks changed", FEW, 2.0),
+        "d3" => writers::contest("d3: half of the blocks changed", HALF, 2.0),
+        "d4" => writers::contest("d4: all blocks changed", ALL, 2.0),
         "e" => walks::contest("e"),
         _ => return Err(unknown(work)),
     })

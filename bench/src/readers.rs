@@ -7,7 +7,7 @@ use second::reader;
 use crate::beside;
 use crate::contest::{Contest, Contestant, Made};
 use crate::dense;
-use crate::hall::SIZE;
+use crate::hall::{SIZE, WIDTH_AND_HEIGHT};
 use crate::random::Random;
 use crate::story::{packed, Story, PAIRS};
 use crate::SEED;
@@ -115,8 +115,7 @@ impl Contestant for Second {
             picture,
             map,
         } = &mut self.0;
-        let size = (SIZE.width, SIZE.height);
-        reader::read_chunk(size, &reading.chunks[piece], picture, map)
+        reader::read_chunk(WIDTH_AND_HEIGHT, &reading.chunks[piece], picture, map)
             .expect("the chunk is accepted");
     }
 

@@ -7,11 +7,8 @@ use second::writer;
 
 use crate::beside;
 use crate::contest::{Contest, Contestant, Made};
-use crate::hall::SIZE;
+use crate::hall::{SIZE, WIDTH_AND_HEIGHT};
 use crate::story::{Story, PAIRS};
-
-/// The second reader and writer take a size as two numbers.
-const IN_NUMBERS: (usize, usize) = (SIZE.width, SIZE.height);
 
 pub fn contest(title: &str, changed: usize, aim: f64) -> Contest {
     let story = Rc::new(Story::new(changed));
@@ -36,7 +33,7 @@ pub fn contest(title: &str, changed: usize, aim: f64) -> Contest {
 
 /// Asked of the second writer, so that who counts the calls of ours finds those of the work alone.
 fn chunk_length(story: &Story, pair: usize) -> usize {
-    let chunk = writer::chunk(IN_NUMBERS, story.before(pair), story.after(pair));
+    let chunk = writer::chunk(WIDTH_AND_HEIGHT, story.before(pair), story.after(pair));
     chunk.expect("the pictures fit").bytes.len()
 }
 
@@ -113,7 +110,7 @@ impl Contestant for Second {
 
     fn work(&mut self, pair: usize) {
         let [old, new] = [self.story.before(pair), self.story.after(pair)];
-        let written = writer::write_chunk(IN_NUMBERS, old, new, &mut self.output);
+        let written = writer::write_chunk(WIDTH_AND_HEIGHT, old, new, &mut self.output);
         self.used = written.expect("there is room").bytes.len();
     }
 
