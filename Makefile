@@ -2,9 +2,10 @@
 #             standard output
 # make test   prove every crate from nothing, try the must-fail edits, compare with the second reader; last line `N passed, M failed`
 # make lib    prove the library; target/lib has libseatboard.a and seatboard.h, for C and for the Rust package in bindings/rust
+# make bench  measure the library beside the second reader and FFmpeg, in one run
 # make check  prove what changed since the last time: the quick loop, and no verdict
 # make clean  remove what the others made
-.PHONY: run test lib check clean
+.PHONY: run test lib bench check clean
 
 FEED ?= examples/listing.feed
 
@@ -20,6 +21,9 @@ lib:
 	@mkdir -p target/lib
 	@cp target/staticlib/libseatboard.a bindings/c/seatboard.h target/lib/
 	@echo target/lib/libseatboard.a target/lib/seatboard.h
+
+bench: lib
+	@bench/run
 
 check:
 	@rt check

@@ -1,0 +1,125 @@
+//! Reading chunks at 320x200, in order as a board does: ours, the second reader, FFmpeg's decoder.
+
+use std::rc::Rc;
+
+use second::reader;
+
+use crate::beside;
+use crate::contest::{Contest, Contestant, Made};
+use crate::dense;
+use crate::hall::{SIZE, WIDTH_AND_HEIGHT};
+use crate::random::Random;
+use crate::story::{packed, Story, PAIRS};
+use crate::SEED;
+
+pub struct Reading {
+    pub start: Vec<u8>,
+    pub chunks: Vec<Vec<u8>>,
+}
+
+/// The chunks that lead from picture to picture, as our writer packs them.
+pub fn changes(title: &str, changed: usize, aim: f64) -> Contest {
+    let story = Story::new(changed);
+    let chunks = (0..PAIRS).map(|pair| packed(story.before(pair), story.after(pair)));
+    let reading = Reading {
+        start: story.before(0).to_vec(),
+        chunks: chunks.collect(),
+    };
+    contest(title, reading, aim, true)
+}
+
+pub fn dense(title: &str, aim: f64) -> Contest {
+    let random = &mut Random::for_case(SEED, u64::MAX);
+    let reading = Reading {
+        start: random.bytes(SIZE.pixels()),
+        chunks: (0..PAIRS).map(|_| dense::chunk(random)).collect(),
+    };
+    contest(title, reading, aim, false)
+}
+
+fn contest(title: &str, reading: Reading, aim: f64, strict: bool) -> Contest {
+    let reading = Rc::new(reading);
+    let mut contestants: Vec<Box<dyn Contestant>> = vec![
+        Box::new(Ours(Lent::new(&reading))),
+        Box::new(Second(Lent::new(&reading))),
+    ];
+    contestants.extend(beside::reader(&reading));
+    Contest {
+        title: title.to_string(),
+        pieces: PAIRS,
+        chunks: PAIRS,
+        bytes: PAIRS * SIZE.pixels(),
+        aim: Some(aim),
+        strict,
+        contestants,
+    }
+}
+
+struct Lent {
+    reading: Rc<Reading>,
+    picture: Vec<u8>,
+    map: Vec<u16>,
+}
+
+impl Lent {
+    fn new(reading: &Rc<Reading>) -> Self {
+        let mut map = vec![0; SIZE.blocks()];
+        seatboard::fresh_map(SIZE, &mut map).expect("the map fits");
+        Lent {
+            reading: Rc::clone(reading),
+            picture: reading.start.clone(),
+            map,
+        }
+    }
+
+    fn made(&self, piece: usize) -> Made {
+        Made {
+            picture: self.picture.clone(),
+            bytes: self.reading.chunks[piece].len(),
+        }
+    }
+}
+
+struct Ours(Lent);
+
+impl Contestant for Ours {
+    fn name(&self) -> &'static str {
+        "ours"
+    }
+
+    fn work(&mut self, piece: usize) {
+        let Lent {
+            reading,
+            picture,
+            map,
+        } = &mut self.0;
+        seatboard::read_chunk(SIZE, &reading.chunks[piece], picture, map)
+            .expect("the chunk is accepted");
+    }
+
+    fn made(&self, piece: usize) -> Made {
+        self.0.made(piece)
+    }
+}
+
+struct Second(Lent);
+
+impl Contestant for Second {
+    fn name(&self) -> &'static str {
+        "second"
+    }
+
+    fn work(&mut self, piece: usize) {
+        let Lent {
+            reading,
+            picture,
+            map,
+        } = &mut self.0;
+        reader::read_chunk(WIDTH_AND_HEIGHT, &reading.chunks[piece], picture, map)
+            .expect("the chunk is accepted");
+    }
+
+    fn made(&self, piece: usize) -> Made {
+        self.0.made(piece)
+    }
+}
