@@ -6,7 +6,7 @@ use lib.Dec.{eqb, ltb}
 use lib.ListN.{length, getD}
 use Rattle.spec.specs.Basics.{if}
 use Rattle.spec.specs.Chunks as Chunks
-use Rattle.spec.specs.Chunks.{kindOf, counted, times, once, each, capacity, bodyAt}
+use Rattle.spec.specs.Chunks.{Kind, kindOf, counted, times, reach, once, each, capacity, bodyAt}
 use Rattle.smc.specs.declared.check.Filled.{Filled}
 use Rattle.smc.specs.declared.check.Head as Code
 use Rattle.smc.specs.declared.check.Head.the-variants.{Bad, Runs}
@@ -19,6 +19,16 @@ spanOf b =
 
 abbrev pub Spans : List ℕ → Type 0
 Spans l = (b : ℕ) → b < 256 → getD l b 0 ≡ spanOf b
+
+-- tables by the upper half-byte
+abbrev pub ByUpper : (Kind → ℕ) → List ℕ → Type 0
+ByUpper f l = (u : ℕ) → u < 16 → getD l u 0 ≡ f (kindOf u)
+
+abbrev pub Times : List ℕ → Type 0
+Times = ByUpper times
+
+abbrev pub Reaches : List ℕ → Type 0
+Reaches = ByUpper reach
 
 -- all bytes of the opcode at s[at], or not all of them
 pub record Stands (s : List ℕ) (at span : ℕ) : Type 0 where

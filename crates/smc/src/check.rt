@@ -9,7 +9,7 @@ ghost use lib.ListN.{length, getD};
 ghost use Rattle.spec.specs.Basics.{part};
 ghost use Rattle.spec.specs.Flags.{number};
 ghost use Rattle.spec.specs.Chunks.{kindOf, times, reach, once, missing, opcode, decode, verdict};
-ghost use Rattle.smc.specs.Checking.{Spans, Stands, Ends, bumped, grown, fillsOf, Tells};
+ghost use Rattle.smc.specs.Checking.{Spans, Times, Reaches, Stands, Ends, bumped, grown, fillsOf, Tells};
 
 // What the upper half-byte of an opcode asks for, 0 to F: blocks to a count, blocks that must stand before, bytes that come once.
 const TIMES: [u8; 16] = [1, 1, 1, 1, 2, 2, 1, 1, 1, 1, 1, 1, 1, 1, 1, 1];
@@ -18,22 +18,37 @@ const REACH: [u8; 16] = [0, 0, 1, 1, 2, 2, 0, 0, 0, 0, 0, 0, 0, 0, 0, 0];
 
 const ONCE: [u8; 16] = [0, 0, 0, 0, 0, 0, 1, 1, 2, 1, 4, 1, 8, 1, 0, 0];
 
-// Each of them, as a number to compute with.
-fn times(upper: usize) -> usize
+// The two tables that every opcode is looked up in. The loop holds and lends them: indexed in place they would be made anew each time.
+fn times_table() -> [u8; 16]
+    ensures { λ r. ⌜ Times r ⌝ }
+{
+    TIMES
+}
+
+fn reach_table() -> [u8; 16]
+    ensures { λ r. ⌜ Reaches r ⌝ }
+{
+    REACH
+}
+
+// Each of the three, as a number to compute with.
+fn times_of(table: &[u8; 16], upper: usize) -> usize
+    requires { ⌜ Times (now table) ⌝ }
     requires { ⌜ upper < 16 ⌝ }
     ensures { λ r. ⌜ r ≡ times (kindOf upper) ⌝ }
 {
-    heads::wide(TIMES[upper])
+    heads::wide(table[upper])
 }
 
-fn reach(upper: usize) -> usize
+fn reach_of(table: &[u8; 16], upper: usize) -> usize
+    requires { ⌜ Reaches (now table) ⌝ }
     requires { ⌜ upper < 16 ⌝ }
     ensures { λ r. ⌜ r ≡ reach (kindOf upper) ⌝ }
 {
-    heads::wide(REACH[upper])
+    heads::wide(table[upper])
 }
 
-fn once(upper: usize) -> usize
+fn once_of(upper: usize) -> usize
     requires { ⌜ upper < 16 ⌝ }
     ensures { λ r. ⌜ r ≡ once (kindOf upper) ⌝ }
 {
@@ -92,18 +107,29 @@ fn grown(f: Filled, upper: usize) -> Filled
 }
 
 // An opcode whose bytes are all there.
-fn whole(blocks: usize, s: &[u8], at: usize, k: usize, f: Filled, span: usize) -> Head
+fn whole(
+    times: &[u8; 16],
+    reach: &[u8; 16],
+    blocks: usize,
+    s: &[u8],
+    at: usize,
+    k: usize,
+    f: Filled,
+    span: usize,
+) -> Head
     requires { ⌜ Stands (now s) at span ⌝ }
     requires { ⌜ k < blocks ⌝ }
+    requires { ⌜ Times (now times) ⌝ }
+    requires { ⌜ Reaches (now reach) ⌝ }
     ensures { λ r. ⌜ Tells (now (s .entry)) at r (opcode blocks (now (s .entry)) at k (fillsOf f)) ⌝ }
 {
     let lead = heads::lead_at(s, at);
     let upper = lead.upper;
-    let m = times(upper) * lead.count;
+    let m = times_of(times, upper) * lead.count;
     if upper == 15 {
         return Head::Bad(Answer::OPCODE_UNKNOWN);
     }
-    if k < reach(upper) {
+    if k < reach_of(reach, upper) {
         return Head::Bad(Answer::NONE_BEFORE);
     }
     if blocks - k < m {
@@ -116,9 +142,19 @@ fn whole(blocks: usize, s: &[u8], at: usize, k: usize, f: Filled, span: usize) -
 }
 
 // An opcode inside which the bytes end: refused, and the order of the tests says by which number.
-fn cut(blocks: usize, s: &[u8], at: usize, k: usize, f: Filled) -> Head
+fn cut(
+    times: &[u8; 16],
+    reach: &[u8; 16],
+    blocks: usize,
+    s: &[u8],
+    at: usize,
+    k: usize,
+    f: Filled,
+) -> Head
     requires { ⌜ Ends (now s) at ⌝ }
     requires { ⌜ k < blocks ⌝ }
+    requires { ⌜ Times (now times) ⌝ }
+    requires { ⌜ Reaches (now reach) ⌝ }
     ensures { λ r. ⌜ Tells (now (s .entry)) at r (opcode blocks (now (s .entry)) at k (fillsOf f)) ⌝ }
 {
     if s.len() - at <= heads::count_bytes(heads::wide(s[at]) / 16) {
@@ -126,13 +162,13 @@ fn cut(blocks: usize, s: &[u8], at: usize, k: usize, f: Filled) -> Head
     }
     let lead = heads::lead_at(s, at);
     let upper = lead.upper;
-    if k < reach(upper) {
+    if k < reach_of(reach, upper) {
         return Head::Bad(Answer::NONE_BEFORE);
     }
-    if blocks - k < times(upper) * lead.count {
+    if blocks - k < times_of(times, upper) * lead.count {
         return Head::Bad(Answer::PAST_LAST_BLOCK);
     }
-    if s.len() - lead.body < once(upper) {
+    if s.len() - lead.body < once_of(upper) {
         return Head::Bad(Answer::OPCODE_CUT);
     }
     if missing(s, f, upper, lead.body) {
@@ -142,17 +178,28 @@ fn cut(blocks: usize, s: &[u8], at: usize, k: usize, f: Filled) -> Head
 }
 
 // The head of the opcode at s[at].
-fn opcode(spans: &[u16; 256], blocks: usize, s: &[u8], at: usize, k: usize, f: Filled) -> Head
+fn opcode(
+    spans: &[u16; 256],
+    times: &[u8; 16],
+    reach: &[u8; 16],
+    blocks: usize,
+    s: &[u8],
+    at: usize,
+    k: usize,
+    f: Filled,
+) -> Head
     requires { ⌜ Spans (now spans) ⌝ }
     requires { ⌜ at < length (now s) ⌝ }
     requires { ⌜ k < blocks ⌝ }
+    requires { ⌜ Times (now times) ⌝ }
+    requires { ⌜ Reaches (now reach) ⌝ }
     ensures { λ r. ⌜ Tells (now (s .entry)) at r (opcode blocks (now (s .entry)) at k (fillsOf f)) ⌝ }
 {
     let span = spans::span_of(spans, heads::wide(s[at]));
     if s.len() - at < span {
-        return cut(blocks, s, at, k, f);
+        return cut(times, reach, blocks, s, at, k, f);
     }
-    whole(blocks, s, at, k, f, span)
+    whole(times, reach, blocks, s, at, k, f, span)
 }
 
 // The opcodes of a chunk whose stated length is right.
@@ -163,6 +210,8 @@ fn check_opcodes(blocks: usize, s: &[u8]) -> Answer
     ensures { λ r. ⌜ r ≡ verdict (now (s .entry)) (decode blocks (now (s .entry))) ⌝ }
 {
     let spans = spans::spans();
+    let times = times_table();
+    let reach = reach_table();
     let len = s.len();
     let mut at = 4;
     let mut k = 0;
@@ -178,7 +227,7 @@ fn check_opcodes(blocks: usize, s: &[u8]) -> Answer
                 place: len,
             };
         }
-        let head = opcode(&spans, blocks, s, at, k, f);
+        let head = opcode(&spans, &times, &reach, blocks, s, at, k, f);
         match head {
             Head::Bad(number) => return Answer { number, place: at },
             Head::Runs(upper, m, next) => {

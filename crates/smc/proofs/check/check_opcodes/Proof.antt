@@ -3,39 +3,47 @@ use mathlib.Core.Path.{_≡_, refl}
 use native.Mathlib.Omega.{arith}
 use lib.ListN.{length}
 use borrow.Author.Needs.{needs}
-use Rattle.smc.specs.Checking.{Spans}
+use Rattle.smc.specs.Checking.{Spans, Times, Reaches}
 use Rattle.smc.proofs.Behind.{Behind, begins, told-runs, told-bad, goes-bad, goes-on, ends-remain, ends-follow, ends-ok}
 use Rattle.smc.proofs.check.check_opcodes.Statement.{statement}
 use Rattle.smc.proofs.check.check_opcodes.Tie as tie
 
 abbrev Inv-loop : tie.InvT-loop
-Inv-loop blocks s spans len at₀ k₀ f₀ at k f = (len ≡ length s) × Spans spans × Behind blocks s at k f
+Inv-loop blocks s spans times reach len at₀ k₀ f₀ at k f = (len ≡ length s) × (Spans spans × Times times × Reaches reach) × Behind blocks s at k f
 
 abbrev μ-loop : tie.MeasureT-loop
-μ-loop blocks s spans len at₀ k₀ f₀ at k f = length s - at
+μ-loop blocks s spans times reach len at₀ k₀ f₀ at k f = length s - at
 
 spans-requires : tie.Need-spans-requires Inv-loop μ-loop
 spans-requires c κs = search needs
 
+times-table-requires : tie.Need-times-table-requires Inv-loop μ-loop
+times-table-requires c κs = search needs
+
+reach-table-requires : tie.Need-reach-table-requires Inv-loop μ-loop
+reach-table-requires c κs = search needs
+
 loop-holds : tie.Need-loop-holds Inv-loop μ-loop
-loop-holds c = (refl, c .spans .ensures, begins _ _ (omega arith) (c .before .before .pre .1 .0))
+loop-holds c = (refl, (c .before .before .spans .ensures, c .before .times-table .ensures, c .reach-table .ensures), begins _ _ (omega arith) (c .before .before .before .before .pre .1 .0))
 
 returns : tie.Need-returns Inv-loop μ-loop
 returns c =
-    let a = c .before .before .before .before .before .args in
+    let a = c .before .before .before .before .before .before .before .args in
     let g = c .before .before .loop .inv .2 in
     ends-remain (a .blocks) (a .s .now) _ _ _ g (omega arith) (omega arith)
 
 opcode-requires : tie.Need-opcode-requires Inv-loop μ-loop
-opcode-requires c κs = (c .before .before .before .loop .inv .1, (omega arith, omega arith))
+opcode-requires c κs =
+    let t = c .before .before .before .before .before .loop .inv .1 in
+    (t .0, (omega arith, (omega arith, (t .1, t .2))))
 
 enum-known-head : tie.Need-enum-known-head Inv-loop μ-loop
 enum-known-head c = search needs
 
 returns-2 : tie.Need-returns-2 Inv-loop μ-loop
 returns-2 c =
-    let a = c .before .before .before .before .before .before .before .before .before .before .args in
-    let g = c .before .before .before .before .before .before .before .loop .inv .2 in
+    let a = c .before .before .before .before .before .before .before .before .before .before .before .before .before .before .args in
+    let g = c .before .before .before .before .before .before .before .before .before .loop .inv .2 in
     goes-bad (a .blocks) (a .s .now) _ _ _ g (omega arith) (omega arith) _ (told-bad (a .blocks) (a .s .now) _ _ _ _ _ (c .before .head .given .1) (c .before .before .before .opcode .ensures))
 
 enum-known-head-2 : tie.Need-enum-known-head-2 Inv-loop μ-loop
@@ -43,8 +51,8 @@ enum-known-head-2 c = search needs
 
 grown-requires : tie.Need-grown-requires Inv-loop μ-loop
 grown-requires c κs =
-    let a = c .before .before .before .before .before .before .before .before .before .before .args in
-    let g = c .before .before .before .before .before .before .before .loop .inv .2 in
+    let a = c .before .before .before .before .before .before .before .before .before .before .before .before .before .before .args in
+    let g = c .before .before .before .before .before .before .before .before .before .loop .inv .2 in
     let t = told-runs (a .blocks) (a .s .now) _ _ _ _ _ _ _ (c .before .head2 .given .1) (c .before .before .before .opcode .ensures) in
     let p = g .pairs in
     let q = g .quads in
@@ -53,34 +61,34 @@ grown-requires c κs =
 
 add-k : tie.Need-add-k Inv-loop μ-loop
 add-k c =
-    let a = c .before .before .before .before .before .before .before .before .before .before .before .args in
-    let g = c .before .before .before .before .before .before .before .before .loop .inv .2 in
+    let a = c .before .before .before .before .before .before .before .before .before .before .before .before .before .before .before .args in
+    let g = c .before .before .before .before .before .before .before .before .before .before .loop .inv .2 in
     let t = told-runs (a .blocks) (a .s .now) _ _ _ _ _ _ _ (c .before .before .head2 .given .1) (c .before .before .before .before .opcode .ensures) in
     omega (arith, t .room)
 
 loop-less : tie.Need-loop-less Inv-loop μ-loop
 loop-less c =
-    let a = c .before .before .before .before .before .before .before .before .before .before .before .args in
-    let g = c .before .before .before .before .before .before .before .before .loop .inv .2 in
+    let a = c .before .before .before .before .before .before .before .before .before .before .before .before .before .before .before .args in
+    let g = c .before .before .before .before .before .before .before .before .before .before .loop .inv .2 in
     let t = told-runs (a .blocks) (a .s .now) _ _ _ _ _ _ _ (c .before .before .head2 .given .1) (c .before .before .before .before .opcode .ensures) in
     omega (arith, t .after, t .inside)
 
 loop-again : tie.Need-loop-again Inv-loop μ-loop
 loop-again c =
-    let a = c .before .before .before .before .before .before .before .before .before .before .before .args in
-    let g = c .before .before .before .before .before .before .before .before .loop .inv .2 in
+    let a = c .before .before .before .before .before .before .before .before .before .before .before .before .before .before .before .args in
+    let g = c .before .before .before .before .before .before .before .before .before .before .loop .inv .2 in
     let t = told-runs (a .blocks) (a .s .now) _ _ _ _ _ _ _ (c .before .before .head2 .given .1) (c .before .before .before .before .opcode .ensures) in
-    (c .before .before .before .before .before .before .before .before .loop .inv .0, c .before .before .before .before .before .before .before .before .loop .inv .1, rw (c .grown .ensures) (goes-on (a .blocks) (a .s .now) _ _ _ g (omega arith) (omega arith) _ _ _ t))
+    (c .before .before .before .before .before .before .before .before .before .before .loop .inv .0, c .before .before .before .before .before .before .before .before .before .before .loop .inv .1, rw (c .grown .ensures) (goes-on (a .blocks) (a .s .now) _ _ _ g (omega arith) (omega arith) _ _ _ t))
 
 returns-3 : tie.Need-returns-3 Inv-loop μ-loop
 returns-3 c =
-    let a = c .before .before .before .before .before .args in
+    let a = c .before .before .before .before .before .before .before .args in
     let g = c .before .before .loop .inv .2 in
     ends-follow (a .blocks) (a .s .now) _ _ _ g (omega arith) (omega arith)
 
 returns-4 : tie.Need-returns-4 Inv-loop μ-loop
 returns-4 c =
-    let a = c .before .before .before .before .before .args in
+    let a = c .before .before .before .before .before .before .before .args in
     let g = c .before .before .loop .inv .2 in
     ends-ok (a .blocks) (a .s .now) _ _ _ g (omega arith) (omega arith)
 
@@ -91,6 +99,8 @@ check-opcodes-spec =
     Inv-loop
     μ-loop
     spans-requires
+    times-table-requires
+    reach-table-requires
     loop-holds
     returns
     opcode-requires

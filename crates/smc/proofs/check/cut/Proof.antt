@@ -30,29 +30,29 @@ lead-at-requires c κs =
     let e = body-by-bytes (a .s .now) (a .at) _ (c .before .before .wide .ensures .0) _ (c .before .count-bytes .ensures) in
     (c .before .before .before .before .before .pre .0 .start, omega arith)
 
-reach-requires : tie.Need-reach-requires
-reach-requires c κs = upper-small (c .lead-at .ensures) (c .before .before .before .before .before .shared-slice-known .given _ .fits)
+reach-of-requires : tie.Need-reach-of-requires
+reach-of-requires c κs = (c .before .before .before .before .before .before .pre .1 .1 .1, upper-small (c .lead-at .ensures) (c .before .before .before .before .before .shared-slice-known .given _ .fits))
 
 returns-2 : tie.Need-returns-2
 returns-2 c =
     let a = c .before .before .before .before .before .before .before .before .args in
     let e = body-by-bytes (a .s .now) (a .at) _ (c .before .before .before .before .before .wide .ensures .0) _ (c .before .before .before .before .count-bytes .ensures) in
-    way-none-before _ _ _ _ _ _ (c .before .before .lead-at .ensures) (rw (c .before .before .lead-at .ensures .upper) (ends-known (c .before .before .before .before .before .before .before .before .pre .0) (c .before .before .before .before .before .before .before .shared-slice-known .given _ .fits))) (omega (arith, c .before .before .lead-at .ensures .body)) _ (c .before .reach .ensures) (omega arith)
+    way-none-before _ _ _ _ _ _ (c .before .before .lead-at .ensures) (rw (c .before .before .lead-at .ensures .upper) (ends-known (c .before .before .before .before .before .before .before .before .pre .0) (c .before .before .before .before .before .before .before .shared-slice-known .given _ .fits))) (omega (arith, c .before .before .lead-at .ensures .body)) _ (c .before .reach-of .ensures) (omega arith)
 
 sub-if3 : tie.Need-sub-if3
 sub-if3 c = search needs
 
-times-requires : tie.Need-times-requires
-times-requires c κs = upper-small (c .before .before .lead-at .ensures) (c .before .before .before .before .before .before .before .shared-slice-known .given _ .fits)
+times-of-requires : tie.Need-times-of-requires
+times-of-requires c κs = (c .before .before .before .before .before .before .before .before .pre .1 .1 .0, upper-small (c .before .before .lead-at .ensures) (c .before .before .before .before .before .before .before .shared-slice-known .given _ .fits))
 
 mul-if3 : tie.Need-mul-if3
-mul-if3 c = omega (arith, blocks-small (c .before .before .before .before .lead-at .ensures) (c .before .before .before .before .before .before .before .before .before .shared-slice-known .given _ .fits) (c .before .before .before .before .before .before .before .before .before .shared-slice-known .given _ .fits) (c .before .times .ensures))
+mul-if3 c = omega (arith, blocks-small (c .before .before .before .before .lead-at .ensures) (c .before .before .before .before .before .before .before .before .before .shared-slice-known .given _ .fits) (c .before .before .before .before .before .before .before .before .before .shared-slice-known .given _ .fits) (c .before .times-of .ensures))
 
 returns-3 : tie.Need-returns-3
 returns-3 c =
     let a = c .before .before .before .before .before .before .before .before .before .before .before .args in
     let e = body-by-bytes (a .s .now) (a .at) _ (c .before .before .before .before .before .before .before .before .wide .ensures .0) _ (c .before .before .before .before .before .before .before .count-bytes .ensures) in
-    way-past _ _ _ _ _ _ (c .before .before .before .before .before .lead-at .ensures) (rw (c .before .before .before .before .before .lead-at .ensures .upper) (ends-known (c .before .before .before .before .before .before .before .before .before .before .before .pre .0) (c .before .before .before .before .before .before .before .before .before .before .shared-slice-known .given _ .fits))) (omega (arith, c .before .before .before .before .before .lead-at .ensures .body)) _ (c .before .before .before .before .reach .ensures) (omega arith) _ (c .before .before .times .ensures) (omega arith)
+    way-past _ _ _ _ _ _ (c .before .before .before .before .before .lead-at .ensures) (rw (c .before .before .before .before .before .lead-at .ensures .upper) (ends-known (c .before .before .before .before .before .before .before .before .before .before .before .pre .0) (c .before .before .before .before .before .before .before .before .before .before .shared-slice-known .given _ .fits))) (omega (arith, c .before .before .before .before .before .lead-at .ensures .body)) _ (c .before .before .before .before .reach-of .ensures) (omega arith) _ (c .before .before .times-of .ensures) (omega arith)
 
 sub-if4 : tie.Need-sub-if4
 sub-if4 c =
@@ -60,36 +60,36 @@ sub-if4 c =
     let e = body-by-bytes (a .s .now) (a .at) _ (c .before .before .before .before .before .before .before .before .before .wide .ensures .0) _ (c .before .before .before .before .before .before .before .before .count-bytes .ensures) in
     omega (arith, c .before .before .before .before .before .before .lead-at .ensures .body)
 
-once-requires : tie.Need-once-requires
-once-requires c κs = upper-small (c .before .before .before .before .before .before .lead-at .ensures) (c .before .before .before .before .before .before .before .before .before .before .before .shared-slice-known .given _ .fits)
+once-of-requires : tie.Need-once-of-requires
+once-of-requires c κs = upper-small (c .before .before .before .before .before .before .lead-at .ensures) (c .before .before .before .before .before .before .before .before .before .before .before .shared-slice-known .given _ .fits)
 
 returns-4 : tie.Need-returns-4
 returns-4 c =
     let a = c .before .before .before .before .before .before .before .before .before .before .before .before .before .before .args in
     let e = body-by-bytes (a .s .now) (a .at) _ (c .before .before .before .before .before .before .before .before .before .before .before .wide .ensures .0) _ (c .before .before .before .before .before .before .before .before .before .before .count-bytes .ensures) in
-    let o = c .before .once .ensures in
-    way-cut-once _ _ _ _ _ _ (c .before .before .before .before .before .before .before .before .lead-at .ensures) (rw (c .before .before .before .before .before .before .before .before .lead-at .ensures .upper) (ends-known (c .before .before .before .before .before .before .before .before .before .before .before .before .before .before .pre .0) (c .before .before .before .before .before .before .before .before .before .before .before .before .before .shared-slice-known .given _ .fits))) (omega (arith, c .before .before .before .before .before .before .before .before .lead-at .ensures .body)) _ (c .before .before .before .before .before .before .before .reach .ensures) (omega arith) _ (c .before .before .before .before .before .times .ensures) (omega arith) (omega arith)
+    let o = c .before .once-of .ensures in
+    way-cut-once _ _ _ _ _ _ (c .before .before .before .before .before .before .before .before .lead-at .ensures) (rw (c .before .before .before .before .before .before .before .before .lead-at .ensures .upper) (ends-known (c .before .before .before .before .before .before .before .before .before .before .before .before .before .before .pre .0) (c .before .before .before .before .before .before .before .before .before .before .before .before .before .shared-slice-known .given _ .fits))) (omega (arith, c .before .before .before .before .before .before .before .before .lead-at .ensures .body)) _ (c .before .before .before .before .before .before .before .reach-of .ensures) (omega arith) _ (c .before .before .before .before .before .times-of .ensures) (omega arith) (omega arith)
 
 missing-requires : tie.Need-missing-requires
 missing-requires c κs =
     let a = c .before .before .before .before .before .before .before .before .before .before .before .before .before .before .args in
     let e = body-by-bytes (a .s .now) (a .at) _ (c .before .before .before .before .before .before .before .before .before .before .before .wide .ensures .0) _ (c .before .before .before .before .before .before .before .before .before .before .count-bytes .ensures) in
-    let o = c .before .once .ensures in
+    let o = c .before .once-of .ensures in
     (omega (arith, c .before .before .before .before .before .before .before .before .lead-at .ensures .body), upper-small (c .before .before .before .before .before .before .before .before .lead-at .ensures) (c .before .before .before .before .before .before .before .before .before .before .before .before .before .shared-slice-known .given _ .fits))
 
 returns-5 : tie.Need-returns-5
 returns-5 c =
     let a = c .before .before .before .before .before .before .before .before .before .before .before .before .before .before .before .before .args in
     let e = body-by-bytes (a .s .now) (a .at) _ (c .before .before .before .before .before .before .before .before .before .before .before .before .before .wide .ensures .0) _ (c .before .before .before .before .before .before .before .before .before .before .before .before .count-bytes .ensures) in
-    let o = c .before .before .before .once .ensures in
-    way-empty _ _ _ _ _ _ (c .before .before .before .before .before .before .before .before .before .before .lead-at .ensures) (rw (c .before .before .before .before .before .before .before .before .before .before .lead-at .ensures .upper) (ends-known (c .before .before .before .before .before .before .before .before .before .before .before .before .before .before .before .before .pre .0) (c .before .before .before .before .before .before .before .before .before .before .before .before .before .before .before .shared-slice-known .given _ .fits))) (omega (arith, c .before .before .before .before .before .before .before .before .before .before .lead-at .ensures .body)) _ (c .before .before .before .before .before .before .before .before .before .reach .ensures) (omega arith) _ (c .before .before .before .before .before .before .before .times .ensures) (omega arith) (omega (arith, c .before .before .before .before .before .before .before .before .before .before .lead-at .ensures .body)) (sym (c .before .missing .ensures) ∙ c .if5 .taken)
+    let o = c .before .before .before .once-of .ensures in
+    way-empty _ _ _ _ _ _ (c .before .before .before .before .before .before .before .before .before .before .lead-at .ensures) (rw (c .before .before .before .before .before .before .before .before .before .before .lead-at .ensures .upper) (ends-known (c .before .before .before .before .before .before .before .before .before .before .before .before .before .before .before .before .pre .0) (c .before .before .before .before .before .before .before .before .before .before .before .before .before .before .before .shared-slice-known .given _ .fits))) (omega (arith, c .before .before .before .before .before .before .before .before .before .before .lead-at .ensures .body)) _ (c .before .before .before .before .before .before .before .before .before .reach-of .ensures) (omega arith) _ (c .before .before .before .before .before .before .before .times-of .ensures) (omega arith) (omega (arith, c .before .before .before .before .before .before .before .before .before .before .lead-at .ensures .body)) (sym (c .before .missing .ensures) ∙ c .if5 .taken)
 
 returns-6 : tie.Need-returns-6
 returns-6 c =
     let a = c .before .before .before .before .before .before .before .before .before .before .before .before .before .before .before .before .args in
     let e = body-by-bytes (a .s .now) (a .at) _ (c .before .before .before .before .before .before .before .before .before .before .before .before .before .wide .ensures .0) _ (c .before .before .before .before .before .before .before .before .before .before .before .before .count-bytes .ensures) in
-    let o = c .before .before .before .once .ensures in
-    way-cut _ _ _ _ _ _ (c .before .before .before .before .before .before .before .before .before .before .lead-at .ensures) (rw (c .before .before .before .before .before .before .before .before .before .before .lead-at .ensures .upper) (ends-known (c .before .before .before .before .before .before .before .before .before .before .before .before .before .before .before .before .pre .0) (c .before .before .before .before .before .before .before .before .before .before .before .before .before .before .before .shared-slice-known .given _ .fits))) (omega (arith, c .before .before .before .before .before .before .before .before .before .before .lead-at .ensures .body)) _ (c .before .before .before .before .before .before .before .before .before .reach .ensures) (omega arith) _ (c .before .before .before .before .before .before .before .times .ensures) (omega arith) (omega (arith, c .before .before .before .before .before .before .before .before .before .before .lead-at .ensures .body)) (sym (c .before .missing .ensures) ∙ c .if5 .left)
+    let o = c .before .before .before .once-of .ensures in
+    way-cut _ _ _ _ _ _ (c .before .before .before .before .before .before .before .before .before .before .lead-at .ensures) (rw (c .before .before .before .before .before .before .before .before .before .before .lead-at .ensures .upper) (ends-known (c .before .before .before .before .before .before .before .before .before .before .before .before .before .before .before .before .pre .0) (c .before .before .before .before .before .before .before .before .before .before .before .before .before .before .before .shared-slice-known .given _ .fits))) (omega (arith, c .before .before .before .before .before .before .before .before .before .before .lead-at .ensures .body)) _ (c .before .before .before .before .before .before .before .before .before .reach-of .ensures) (omega arith) _ (c .before .before .before .before .before .before .before .times-of .ensures) (omega arith) (omega (arith, c .before .before .before .before .before .before .before .before .before .before .lead-at .ensures .body)) (sym (c .before .missing .ensures) ∙ c .if5 .left)
     (c .before .before .before .before .before .before .before .before .before .before .before .before .before .before .before .shared-slice-known .given _ .fits) (c .before .before .before .before .before .before .before .before .before .before .before .before .before .before .before .before .pre .0 .short)
 
 pub cut-spec : {M : Type 1} → statement M
@@ -102,14 +102,14 @@ cut-spec =
     count-bytes-requires
     returns
     lead-at-requires
-    reach-requires
+    reach-of-requires
     returns-2
     sub-if3
-    times-requires
+    times-of-requires
     mul-if3
     returns-3
     sub-if4
-    once-requires
+    once-of-requires
     returns-4
     missing-requires
     returns-5

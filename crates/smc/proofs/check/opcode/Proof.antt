@@ -22,7 +22,7 @@ cut-requires : tie.Need-cut-requires
 cut-requires c κs =
     let a = c .before .before .before .before .before .args in
     let e : c .before .span-of .result ≡ spanOf (getD (a .s .now) (a .at) 0) = rw (← c .before .before .wide .ensures .0) (c .before .span-of .ensures) in
-    (record { start = omega arith; short = omega arith }, omega arith)
+    (record { start = omega arith; short = omega arith }, (omega arith, c .before .before .before .before .before .pre .1 .1 .1))
 
 returns : tie.Need-returns
 returns c = c .cut .ensures
@@ -31,7 +31,7 @@ whole-requires : tie.Need-whole-requires
 whole-requires c κs =
     let a = c .before .before .before .before .before .args in
     let e : c .before .span-of .result ≡ spanOf (getD (a .s .now) (a .at) 0) = rw (← c .before .before .wide .ensures .0) (c .before .span-of .ensures) in
-    (record { start = omega arith; is = e; room = omega arith }, omega arith)
+    (record { start = omega arith; is = e; room = omega arith }, (omega arith, c .before .before .before .before .before .pre .1 .1 .1))
 
 returns-2 : tie.Need-returns-2
 returns-2 c = c .whole .ensures

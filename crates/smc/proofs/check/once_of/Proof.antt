@@ -5,8 +5,8 @@ use lib.ListN.{getD}
 use borrow.Author.Needs.{needs}
 use Rattle.spec.specs.Chunks.{kindOf, once}
 use Rattle.spec.proofs.Computed.{agree-at}
-use Rattle.smc.proofs.check.once.Statement.{statement}
-use Rattle.smc.proofs.check.once.Tie as tie
+use Rattle.smc.proofs.check.once_of.Statement.{statement}
+use Rattle.smc.proofs.check.once_of.Tie as tie
 
 array-read-wide : tie.Need-array-read-wide
 array-read-wide c = search needs
@@ -17,5 +17,5 @@ wide-requires c κs = search needs
 returns : tie.Need-returns
 returns c = c .wide .ensures .0 ∙ agree-at (λ u. getD (0 ∷ 0 ∷ 0 ∷ 0 ∷ 0 ∷ 0 ∷ 1 ∷ 1 ∷ 2 ∷ 1 ∷ 4 ∷ 1 ∷ 8 ∷ 1 ∷ 0 ∷ 0 ∷ []) u 0) (λ u. once (kindOf u)) 16 refl (c .before .args .upper) (omega arith)
 
-pub once-spec : {M : Type 1} → statement M
-once-spec = tie.close (tie.spec array-read-wide wide-requires returns)
+pub once-of-spec : {M : Type 1} → statement M
+once-of-spec = tie.close (tie.spec array-read-wide wide-requires returns)
