@@ -11,6 +11,7 @@ pub mod Runwise
 pub mod Showing
 pub mod Making
 pub mod Opcodes
+pub mod Entering
 pub mod Turning
 pub mod Going
 pub mod Reading

@@ -1,8 +1,11 @@
 -- A colour table as the code holds it: one run of bytes, and the next entry's number. Assumes nothing.
-use Prim.Native.Nat.{ℕ, _*_, _^_, _<_, _≤_}
+use Prim.Native.Nat.{ℕ, _+_, _*_, _%_, _^_, _<_, _≤_}
 use mathlib.Core.Path.{_≡_}
+use mathlib.Core.Logic.{_≢_}
 use mathlib.Core.List.{List}
-use lib.ListN.{length}
+use lib.ListN.{length, getD}
+use lib.Seq.{sets}
+use Rattle.spec.specs.Basics.{part}
 use Rattle.spec.specs.Chunks.{Table, capacity}
 use Rattle.spec.proofs.Cells.{tableOf}
 
@@ -21,3 +24,10 @@ pub record Holds (b : ℕ) (l : List ℕ) (next : ℕ) (t : Table) : Type 0 wher
   pub byte : next < capacity
   pub first : filled < capacity → next ≡ filled
   pub room : length l ≡ size b
+
+-- the entry of an opcode whose further bytes stand at s[q], w colours to an entry: the opcode v stores it in the table l, any other names it.
+-- Then l′ and next′ hold the table, its colours stand at l′[e], and its flags at s[rest]
+pub record Entered (w : ℕ) (l : List ℕ) (next : ℕ) (s : List ℕ) (q u v : ℕ) (l′ : List ℕ) (e rest next′ : ℕ) : Type 0 where
+  pub stored : u ≡ v → (l′ ≡ sets l (w * next) (part s q w)) × (e ≡ w * next) × (rest ≡ q + w) × (next′ ≡ (next + 1) % capacity)
+  pub named : u ≢ v → (l′ ≡ l) × (e ≡ w * getD s q 0) × (rest ≡ q + 1) × (next′ ≡ next)
+  pub room : e + w ≤ w * capacity

@@ -100,25 +100,13 @@ fn pair_op(
 {
     let lead = heads::lead_at(s, at);
     let n = lead.count;
-    let body = lead.body;
-    if lead.upper == 8 {
-        let after = tables::store(t, PairTable::COLOURS, next, s, body);
-        let rest = body + PairTable::COLOURS;
-        let e = PairTable::COLOURS * next as usize;
-        runs::pair_run(factors, pic, map, c, r, k, n, t, e, s, rest);
-        return Stored {
-            at: rest + 2 * n,
-            k: k + n,
-            next: after,
-        };
-    }
-    let rest = body + 1;
-    let e = PairTable::COLOURS * heads::wide(s[body]);
-    runs::pair_run(factors, pic, map, c, r, k, n, t, e, s, rest);
+    let entry = tables::entry_of(t, PairTable::COLOURS, lead.upper, 8, next, s, lead.body);
+    let rest = entry.rest;
+    runs::pair_run(factors, pic, map, c, r, k, n, t, entry.at, s, rest);
     Stored {
         at: rest + 2 * n,
         k: k + n,
-        next,
+        next: entry.next,
     }
 }
 
@@ -142,25 +130,13 @@ fn quad_op(
 {
     let lead = heads::lead_at(s, at);
     let n = lead.count;
-    let body = lead.body;
-    if lead.upper == 10 {
-        let after = tables::store(t, QuadTable::COLOURS, next, s, body);
-        let rest = body + QuadTable::COLOURS;
-        let e = QuadTable::COLOURS * next as usize;
-        runs::quad_run(pic, map, c, r, k, n, t, e, s, rest);
-        return Stored {
-            at: rest + 4 * n,
-            k: k + n,
-            next: after,
-        };
-    }
-    let rest = body + 1;
-    let e = QuadTable::COLOURS * heads::wide(s[body]);
-    runs::quad_run(pic, map, c, r, k, n, t, e, s, rest);
+    let entry = tables::entry_of(t, QuadTable::COLOURS, lead.upper, 10, next, s, lead.body);
+    let rest = entry.rest;
+    runs::quad_run(pic, map, c, r, k, n, t, entry.at, s, rest);
     Stored {
         at: rest + 4 * n,
         k: k + n,
-        next,
+        next: entry.next,
     }
 }
 
@@ -184,25 +160,13 @@ fn octet_op(
 {
     let lead = heads::lead_at(s, at);
     let n = lead.count;
-    let body = lead.body;
-    if lead.upper == 12 {
-        let after = tables::store(t, OctetTable::COLOURS, next, s, body);
-        let rest = body + OctetTable::COLOURS;
-        let e = OctetTable::COLOURS * next as usize;
-        runs::octet_run(pic, map, c, r, k, n, t, e, s, rest);
-        return Stored {
-            at: rest + 6 * n,
-            k: k + n,
-            next: after,
-        };
-    }
-    let rest = body + 1;
-    let e = OctetTable::COLOURS * heads::wide(s[body]);
-    runs::octet_run(pic, map, c, r, k, n, t, e, s, rest);
+    let entry = tables::entry_of(t, OctetTable::COLOURS, lead.upper, 12, next, s, lead.body);
+    let rest = entry.rest;
+    runs::octet_run(pic, map, c, r, k, n, t, entry.at, s, rest);
     Stored {
         at: rest + 6 * n,
         k: k + n,
-        next,
+        next: entry.next,
     }
 }
 

@@ -1,11 +1,12 @@
 // The three colour tables of a chunk. A table is one run of colours, entry after entry, and the number of its next entry.
+use crate::heads;
 ghost use mathlib.Core.Path.{_≡_};
-ghost use Prim.Native.Nat.{_+_, _*_, _%_, _≤_};
+ghost use Prim.Native.Nat.{_+_, _*_, _%_, _≤_, _<_};
 ghost use lib.ListN.{length};
 ghost use lib.Seq.{sets};
 ghost use Rattle.spec.specs.Basics.{part};
 ghost use Rattle.spec.specs.Chunks.{capacity, emptied};
-ghost use Rattle.smc.specs.Tables.{Holds};
+ghost use Rattle.smc.specs.Tables.{Holds, Entered};
 
 // The pairs stored in a chunk.
 pub struct PairTable {
@@ -77,7 +78,7 @@ impl OctetTable {
 }
 
 // Stores the w colours at s[q] as entry `next`, and gives the number of the entry after it: after the last comes the first.
-pub fn store(t: &mut [u8], w: usize, next: u8, s: &[u8], q: usize) -> u8
+fn store(t: &mut [u8], w: usize, next: u8, s: &[u8], q: usize) -> u8
     requires { ⌜ w ≤ 8 ⌝ }
     requires { ⌜ length (now t) ≡ w * capacity ⌝ }
     requires { ⌜ q + w ≤ length (now s) ⌝ }
@@ -91,4 +92,43 @@ pub fn store(t: &mut [u8], w: usize, next: u8, s: &[u8], q: usize) -> u8
         i += 1;
     }
     std::num::wrapping_add_u8(next, 1)
+}
+
+// What an opcode with a table paints by: where in the table its colours stand, where in the chunk its flags, and the number of the table's
+// next entry then.
+pub struct Entry {
+    pub at: usize,
+    pub rest: usize,
+    pub next: u8,
+}
+
+// The entry of an opcode whose further bytes stand at s[q]: the opcode `storing` stores its w colours as the next one, any other names one.
+pub fn entry_of(
+    t: &mut [u8],
+    w: usize,
+    upper: usize,
+    storing: usize,
+    next: u8,
+    s: &[u8],
+    q: usize,
+) -> Entry
+    requires { ⌜ w ≤ 8 ⌝ }
+    requires { ⌜ length (now t) ≡ w * capacity ⌝ }
+    requires { ⌜ q < length (now s) ⌝ }
+    requires { ⌜ (upper ≡ storing → q + w ≤ length (now s)) ⌝ }
+    ensures { λ r. ⌜ Entered w (now (t .entry)) next (now (s .entry)) q upper storing (now (t .exit)) (r .at) (r .rest) (r .next) ⌝ }
+{
+    if upper == storing {
+        let after = store(t, w, next, s, q);
+        return Entry {
+            at: w * next as usize,
+            rest: q + w,
+            next: after,
+        };
+    }
+    Entry {
+        at: w * heads::wide(s[q]),
+        rest: q + 1,
+        next,
+    }
 }
