@@ -265,12 +265,12 @@ pub fn paint(c: usize, r: usize, s: &[u8], pic: &mut [u8], map: &mut [u16])
     let mut quads = QuadTable::emptied();
     let mut octets = OctetTable::emptied();
     let blocks = map.len();
+    let mut p = pairs.next;
+    let mut q = quads.next;
+    let mut o = octets.next;
     let mut at = 4;
     let mut k = 0;
     while k < blocks {
-        let p = pairs.next;
-        let q = quads.next;
-        let o = octets.next;
         let m = turn(
             &factors,
             c,
@@ -287,9 +287,9 @@ pub fn paint(c: usize, r: usize, s: &[u8], pic: &mut [u8], map: &mut [u16])
             &mut octets.colours,
             o,
         );
-        pairs.next = m.pairs;
-        quads.next = m.quads;
-        octets.next = m.octets;
+        p = m.pairs;
+        q = m.quads;
+        o = m.octets;
         at = m.at;
         k = m.k;
     }

@@ -8,10 +8,10 @@ use Rattle.smc.proofs.paint.paint.Statement.{statement}
 use Rattle.smc.proofs.paint.paint.Tie as tie
 
 abbrev Inv-loop : tie.InvT-loop
-Inv-loop c r s pic₀ map₀ factors pairs₀ quads₀ octets₀ blocks at₀ k₀ pic map pairs quads octets at k = Going c r s pic₀ map₀ at k (pairs .colours) (pairs .next) (quads .colours) (quads .next) (octets .colours) (octets .next) pic map
+Inv-loop c r s pic₀ map₀ factors pairs₀ quads₀ octets₀ blocks p₀ q₀ o₀ at₀ k₀ pic map pairs quads octets p q o at k = Going c r s pic₀ map₀ at k (pairs .colours) p (quads .colours) q (octets .colours) o pic map
 
 abbrev μ-loop : tie.MeasureT-loop
-μ-loop c r s pic₀ map₀ factors pairs₀ quads₀ octets₀ blocks at₀ k₀ pic map pairs quads octets at k = length s - at
+μ-loop c r s pic₀ map₀ factors pairs₀ quads₀ octets₀ blocks p₀ q₀ o₀ at₀ k₀ pic map pairs quads octets p q o at k = length s - at
 
 pair-factors-requires : tie.Need-pair-factors-requires Inv-loop μ-loop
 pair-factors-requires c κs = search needs
