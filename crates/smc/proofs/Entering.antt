@@ -1,18 +1,22 @@
 -- An opcode with a table, by the entry that it stores or names: one law for both. Assumes nothing.
-use Prim.Native.Nat.{ℕ, suc, _+_, _*_, _<_, _≤_}
-use mathlib.Core.Path.{_≡_, refl, ap, _∙_}
+use Prim.Native.Nat.{ℕ, suc, _+_, _-_, _*_, _<_, _≤_}
+use mathlib.Core.Path.{_≡_, refl, sym, ap, _∙_}
 use mathlib.Core.Logic.{_≢_}
 use mathlib.Core.List.{List}
+use mathlib.Core.Bool.{true}
 use native.Mathlib.Decide.{ℕ-discrete}
 use native.Mathlib.Nat.{one-mul}
 use native.Mathlib.Omega.{arith}
-use lib.ListN.{length, getD}
+use lib.ListN.{length, getD, take, drop}
 use lib.Pow.{pow-pos}
 use lib.Seq.{length-sets}
+use lib.Dec.{eqb}
+use borrow.Author.Tests.{eqb-true}
 use Rattle.spec.specs.Basics.{part}
 use Rattle.spec.specs.Flags.{flags, chosen}
 use Rattle.spec.specs.Chunks.{kindOf, store, named, upperAt}
 use Rattle.spec.proofs.Cells.{entry-room}
+use Rattle.spec.proofs.Parts.{length-part, part-sets}
 use Rattle.smc.specs.declared.heads.Lead.{Lead}
 use Rattle.smc.specs.Heads.{Leads}
 use Rattle.smc.specs.Runs.{puts, marks}
@@ -20,6 +24,10 @@ use Rattle.smc.specs.Tables.{colours, size, Entered}
 use Rattle.smc.specs.Painting.{Room, Tabled}
 use Rattle.smc.proofs.Making.{tabled-store, tabled-named}
 use Rattle.smc.proofs.Opcodes.{kind-of, kind-other, facts-of, facts-other}
+
+-- a part, as the code lends it
+pub lent-part : (l : List ℕ) (q w : ℕ) → take (q + w - q) (drop q l) ≡ part l q w
+lent-part l q w = let e : q + w - q ≡ w = omega arith in rw e
 
 -- the table stays as long as it was
 pub entered-length : {w : ℕ} {l : List ℕ} {next : ℕ} {s : List ℕ} {q u v : ℕ} {l′ : List ℕ} {e rest next′ : ℕ} → Entered w l next s q u v l′ e rest next′ → length l′ ≡ length l
@@ -50,6 +58,18 @@ module _ (x : ℕ) (some : x ≢ 0) (most : x < 4) (u : ℕ) (stores : kindOf u 
       by (no q) = omega (arith, rw names at (facts-other g el q h .within))
 
   module _ {l : List ℕ} {next : ℕ} {l′ : List ℕ} {e rest next′ : ℕ} (en : Entered (colours x) l next s (lead .body) (lead .upper) u l′ e rest next′) where
+    -- what has just been stored is there to be read
+    pub entry-stored : length l ≡ size x → next < 256 → eqb (lead .upper) u ≡ true
+        → (lead .body + colours x ≤ length s) × (part s (lead .body) (colours x) ≡ part l′ e (colours x))
+    entry-stored room byte t =
+        let q = eqb-true (lead .upper) u t in
+        let w = entry-whole q in
+        let f = length-part s (lead .body) (colours x) w in
+        (w, sym (rw (en .stored q .0, en .stored q .1) (part-sets l (colours x * next) (part s (lead .body) (colours x)) (colours x) f (omega (arith, entry-room (colours x) next 256 byte)))))
+
+    pub entry-room-left : length l ≡ size x → e + colours x ≤ length l′
+    entry-room-left room = rw (entered-length en, room) (en .room)
+
     pub entry-inside : rest + 2 * x * lead .count ≤ length s
     entry-inside = by (ℕ-discrete (lead .upper) u)
       where

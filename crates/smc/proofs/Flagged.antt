@@ -7,7 +7,7 @@ use native.Mathlib.Omega.{arith}
 use lib.ListN.{length, getD}
 use Rattle.spec.specs.Basics.{part}
 use Rattle.spec.specs.Flags.{digits, flags, chosen}
-use Rattle.spec.proofs.Parts.{part-at, part-listed}
+use Rattle.spec.proofs.Parts.{part-listed}
 use Rattle.spec.proofs.Digits.{pair-flags, quad-flags, octet-flags}
 use Rattle.smc.proofs.RowsPut.{Four, four}
 
@@ -21,24 +21,22 @@ pub four-chosen : (bits x : ℕ) (cs : List ℕ) → Four (chosen (digits bits 4
 unfolding digits
 four-chosen bits x cs = four
 
-pub quad-row : (t : List ℕ) (e f : ℕ) → f < 256
-    → getD t (e + f / 64) 0 ∷ getD t (e + f / 16 % 4) 0 ∷ getD t (e + f / 4 % 4) 0 ∷ getD t (e + f % 4) 0 ∷ [] ≡ chosen (digits 2 4 f) (part t e 4)
+pub quad-row : (t : List ℕ) (f : ℕ) → f < 256 → getD t (f / 64) 0 ∷ getD t (f / 16 % 4) 0 ∷ getD t (f / 4 % 4) 0 ∷ getD t (f % 4) 0 ∷ [] ≡ chosen (digits 2 4 f) t
 unfolding digits
-quad-row t e f h =
+quad-row t f h =
     let q0 : f / 64 % 4 ≡ f / 64 = omega arith in
     let q3 : f / 1 % 4 ≡ f % 4 = omega arith in
-    rw (q0, q3, part-at t e 4 (f / 64) 0 (omega arith), part-at t e 4 (f / 16 % 4) 0 (omega arith), part-at t e 4 (f / 4 % 4) 0 (omega arith), part-at t e 4 (f % 4) 0 (omega arith))
+    rw (q0, q3)
 
-pub octet-row : (t : List ℕ) (e f g : ℕ) → f < 256 → g < 16
-    → getD t (e + f / 32) 0 ∷ getD t (e + f / 4 % 8) 0 ∷ getD t (e + (f % 4 * 2 + g / 8)) 0 ∷ getD t (e + g % 8) 0 ∷ []
-    ≡ chosen (digits 3 4 (f * 16 + g)) (part t e 8)
+pub octet-row : (t : List ℕ) (f g : ℕ) → f < 256 → g < 16
+    → getD t (f / 32) 0 ∷ getD t (f / 4 % 8) 0 ∷ getD t (f % 4 * 2 + g / 8) 0 ∷ getD t (g % 8) 0 ∷ [] ≡ chosen (digits 3 4 (f * 16 + g)) t
 unfolding digits
-octet-row t e f g hf hg =
+octet-row t f g hf hg =
     let q0 : (f * 16 + g) / 512 % 8 ≡ f / 32 = omega arith in
     let q1 : (f * 16 + g) / 64 % 8 ≡ f / 4 % 8 = omega arith in
     let q2 : (f * 16 + g) / 8 % 8 ≡ f % 4 * 2 + g / 8 = omega arith in
     let q3 : (f * 16 + g) / 1 % 8 ≡ g % 8 = omega arith in
-    rw (q0, q1, q2, q3, part-at t e 8 (f / 32) 0 (omega arith), part-at t e 8 (f / 4 % 8) 0 (omega arith), part-at t e 8 (f % 4 * 2 + g / 8) 0 (omega arith), part-at t e 8 (g % 8) 0 (omega arith))
+    rw (q0, q1, q2, q3)
 
 -- for every six flag bytes: rows by a byte and a half-byte each name what the two 24-bit numbers name
 pub octet-rows : (cs : List ℕ) (a b c d e f : ℕ) → b < 256 → c < 256 → d < 256 → f < 256

@@ -1,18 +1,15 @@
 // A block's pixels by its flags: which colour of a table's entry each pixel takes.
 use crate::put;
-use crate::tables::OctetTable;
-use crate::tables::QuadTable;
 use blocks::Rows;
 ghost use mathlib.Core.Path.{_≡_};
 ghost use mathlib.Core.List.{[], _∷_};
 ghost use Prim.Native.Nat.{_+_, _*_, _≤_, _<_};
 ghost use lib.ListN.{length};
 ghost use lib.Seq.{sets};
-ghost use Rattle.spec.specs.Basics.{part};
 ghost use Rattle.spec.specs.Flags.{digits, flags, chosen};
 ghost use Rattle.spec.specs.Pictures.{putBlock};
 ghost use Rattle.blocks.specs.Blocks.{rowOf, pixels, Canvas};
-ghost use Rattle.smc.specs.Tables.{colours, size};
+ghost use Rattle.smc.specs.Tables.{colours};
 ghost use Rattle.smc.specs.Factors.{Factors};
 
 // ---- pairs: one bit a pixel
@@ -72,54 +69,35 @@ pub fn pair_rows(factors: &[u32; 16], c0: u8, c1: u8, f0: u8, f1: u8) -> Rows
 
 // ---- quads: two bits a pixel
 
-// Four pixels by a byte, with the colours at t[e].
-fn quad_row(t: &[u8; QuadTable::CAPACITY * QuadTable::COLOURS], e: usize, f: u8) -> u32
-    requires { ⌜ e + colours 2 ≤ size 2 ⌝ }
-    ensures { λ r. ⌜ rowOf r ≡ chosen (digits 2 4 f) (part (now (t .entry)) e (colours 2)) ⌝ }
+// Four pixels by a byte, with the colours t.
+fn quad_row(t: &[u8], f: u8) -> u32
+    requires { ⌜ length (now t) ≡ colours 2 ⌝ }
+    ensures { λ r. ⌜ rowOf r ≡ chosen (digits 2 4 f) (now (t .entry)) ⌝ }
 {
     let x = f as usize;
-    blocks::word(
-        t[e + x / 64],
-        t[e + x / 16 % 4],
-        t[e + x / 4 % 4],
-        t[e + x % 4],
-    )
+    blocks::word(t[x / 64], t[x / 16 % 4], t[x / 4 % 4], t[x % 4])
 }
 
 // A block by four flag bytes, one a row.
-pub fn quad_rows(
-    t: &[u8; QuadTable::CAPACITY * QuadTable::COLOURS],
-    e: usize,
-    f0: u8,
-    f1: u8,
-    f2: u8,
-    f3: u8,
-) -> Rows
-    requires { ⌜ e + colours 2 ≤ size 2 ⌝ }
-    ensures { λ r. ⌜ pixels r ≡ chosen (flags 2 (f0 ∷ f1 ∷ f2 ∷ f3 ∷ [])) (part (now (t .entry)) e (colours 2)) ⌝ }
+pub fn quad_rows(t: &[u8], f0: u8, f1: u8, f2: u8, f3: u8) -> Rows
+    requires { ⌜ length (now t) ≡ colours 2 ⌝ }
+    ensures { λ r. ⌜ pixels r ≡ chosen (flags 2 (f0 ∷ f1 ∷ f2 ∷ f3 ∷ [])) (now (t .entry)) ⌝ }
 {
-    let a = quad_row(t, e, f0);
-    let b = quad_row(t, e, f1);
-    let c = quad_row(t, e, f2);
-    let d = quad_row(t, e, f3);
+    let a = quad_row(t, f0);
+    let b = quad_row(t, f1);
+    let c = quad_row(t, f2);
+    let d = quad_row(t, f3);
     Rows { a, b, c, d }
 }
 
 // ---- octets: three bits a pixel. Nothing here is wider than a byte but places.
 
 // Stores at pic[p] four pixels by twelve bits: a byte, and the half-byte after it.
-fn put_octet_row(
-    pic: &mut [u8],
-    p: usize,
-    t: &[u8; OctetTable::CAPACITY * OctetTable::COLOURS],
-    e: usize,
-    f: u8,
-    g: u8,
-)
+fn put_octet_row(pic: &mut [u8], p: usize, t: &[u8], f: u8, g: u8)
     requires { ⌜ p + 4 ≤ length (now pic) ⌝ }
-    requires { ⌜ e + colours 3 ≤ size 3 ⌝ }
+    requires { ⌜ length (now t) ≡ colours 3 ⌝ }
     requires { ⌜ g < 16 ⌝ }
-    ensures { λ _. ⌜ now (pic .exit) ≡ sets (now (pic .entry)) p (chosen (digits 3 4 (f * 16 + g)) (part (now (t .entry)) e (colours 3))) ⌝ }
+    ensures { λ _. ⌜ now (pic .exit) ≡ sets (now (pic .entry)) p (chosen (digits 3 4 (f * 16 + g)) (now (t .entry))) ⌝ }
 {
     let a = f / 32;
     let b = f / 4 % 8;
@@ -128,21 +106,20 @@ fn put_octet_row(
     put::put_four(
         pic,
         p,
-        t[e + a as usize],
-        t[e + b as usize],
-        t[e + c as usize],
-        t[e + d as usize],
+        t[a as usize],
+        t[b as usize],
+        t[c as usize],
+        t[d as usize],
     );
 }
 
-// Puts block k by six flag bytes, with the colours at t[e].
+// Puts block k by six flag bytes, with the colours t.
 pub fn put_octet(
     pic: &mut [u8],
     c: usize,
     r: usize,
     k: usize,
-    t: &[u8; OctetTable::CAPACITY * OctetTable::COLOURS],
-    e: usize,
+    t: &[u8],
     f0: u8,
     f1: u8,
     f2: u8,
@@ -152,13 +129,13 @@ pub fn put_octet(
 )
     requires { ⌜ Canvas c r (now pic) ⌝ }
     requires { ⌜ k < c * r ⌝ }
-    requires { ⌜ e + colours 3 ≤ size 3 ⌝ }
-    ensures { λ _. ⌜ now (pic .exit) ≡ putBlock c k (chosen (flags 3 (f0 ∷ f1 ∷ f2 ∷ f3 ∷ f4 ∷ f5 ∷ [])) (part (now (t .entry)) e (colours 3))) (now (pic .entry)) ⌝ }
+    requires { ⌜ length (now t) ≡ colours 3 ⌝ }
+    ensures { λ _. ⌜ now (pic .exit) ≡ putBlock c k (chosen (flags 3 (f0 ∷ f1 ∷ f2 ∷ f3 ∷ f4 ∷ f5 ∷ [])) (now (t .entry))) (now (pic .entry)) ⌝ }
 {
     let p = blocks::place_of(c, k);
     let w = 4 * c;
-    put_octet_row(pic, p, t, e, f0, f1 / 16);
-    put_octet_row(pic, p + w, t, e, f2, f3 / 16);
-    put_octet_row(pic, p + 2 * w, t, e, f4, f5 / 16);
-    put_octet_row(pic, p + 3 * w, t, e, f1 % 16 * 16 + f3 % 16, f5 % 16);
+    put_octet_row(pic, p, t, f0, f1 / 16);
+    put_octet_row(pic, p + w, t, f2, f3 / 16);
+    put_octet_row(pic, p + 2 * w, t, f4, f5 / 16);
+    put_octet_row(pic, p + 3 * w, t, f1 % 16 * 16 + f3 % 16, f5 % 16);
 }

@@ -132,7 +132,15 @@ fn quad_op(
     let n = lead.count;
     let entry = tables::entry_of(t, QuadTable::COLOURS, lead.upper, 10, next, s, lead.body);
     let rest = entry.rest;
-    runs::quad_run(pic, map, c, r, k, n, t, entry.at, s, rest);
+    let colours = tables::colours_at(
+        t,
+        entry.at,
+        lead.upper == 10,
+        s,
+        lead.body,
+        QuadTable::COLOURS,
+    );
+    runs::quad_run(pic, map, c, r, k, n, colours, s, rest);
     Stored {
         at: rest + 4 * n,
         k: k + n,
@@ -162,7 +170,15 @@ fn octet_op(
     let n = lead.count;
     let entry = tables::entry_of(t, OctetTable::COLOURS, lead.upper, 12, next, s, lead.body);
     let rest = entry.rest;
-    runs::octet_run(pic, map, c, r, k, n, t, entry.at, s, rest);
+    let colours = tables::colours_at(
+        t,
+        entry.at,
+        lead.upper == 12,
+        s,
+        lead.body,
+        OctetTable::COLOURS,
+    );
+    runs::octet_run(pic, map, c, r, k, n, colours, s, rest);
     Stored {
         at: rest + 6 * n,
         k: k + n,

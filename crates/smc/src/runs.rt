@@ -1,9 +1,7 @@
 // Runs of blocks in picture and map, each painted in place, one after the other.
 use crate::flags;
 use crate::put;
-use crate::tables::OctetTable;
 use crate::tables::PairTable;
-use crate::tables::QuadTable;
 use blocks::Rows;
 use spec::SETTLED;
 ghost use mathlib.Core.Path.{_≡_};
@@ -150,7 +148,7 @@ pub fn pair_run(
     }
 }
 
-// n blocks from block k on by the flags at s[at], four bytes a block, with the colours at t[e].
+// n blocks from block k on by the flags at s[at], four bytes a block, with the colours t.
 pub fn quad_run(
     pic: &mut [u8],
     map: &mut [u16],
@@ -158,8 +156,7 @@ pub fn quad_run(
     r: usize,
     k: usize,
     n: usize,
-    t: &[u8; QuadTable::CAPACITY * QuadTable::COLOURS],
-    e: usize,
+    t: &[u8],
     s: &[u8],
     at: usize,
 )
@@ -167,20 +164,20 @@ pub fn quad_run(
     requires { ⌜ k + n ≤ c * r ⌝ }
     requires { ⌜ length (now map) ≡ c * r ⌝ }
     requires { ⌜ at + 4 * n ≤ length (now s) ⌝ }
-    requires { ⌜ e + colours 2 ≤ size 2 ⌝ }
-    ensures { λ _. ⌜ now (pic .exit) ≡ puts c k (λ i. chosen (flags 2 (part (now (s .entry)) (at + 4 * i) 4)) (part (now (t .entry)) e (colours 2))) n (now (pic .entry)) ⌝ }
+    requires { ⌜ length (now t) ≡ colours 2 ⌝ }
+    ensures { λ _. ⌜ now (pic .exit) ≡ puts c k (λ i. chosen (flags 2 (part (now (s .entry)) (at + 4 * i) 4)) (now (t .entry))) n (now (pic .entry)) ⌝ }
     ensures { λ _. ⌜ now (map .exit) ≡ marks k n (now (map .entry)) ⌝ }
 {
     let mut i = 0;
     while i < n {
         let q = at + 4 * i;
-        let rows = flags::quad_rows(t, e, s[q], s[q + 1], s[q + 2], s[q + 3]);
+        let rows = flags::quad_rows(t, s[q], s[q + 1], s[q + 2], s[q + 3]);
         settle(pic, map, c, r, k + i, rows);
         i += 1;
     }
 }
 
-// n blocks from block k on by the flags at s[at], six bytes a block, with the colours at t[e].
+// n blocks from block k on by the flags at s[at], six bytes a block, with the colours t.
 pub fn octet_run(
     pic: &mut [u8],
     map: &mut [u16],
@@ -188,8 +185,7 @@ pub fn octet_run(
     r: usize,
     k: usize,
     n: usize,
-    t: &[u8; OctetTable::CAPACITY * OctetTable::COLOURS],
-    e: usize,
+    t: &[u8],
     s: &[u8],
     at: usize,
 )
@@ -197,8 +193,8 @@ pub fn octet_run(
     requires { ⌜ k + n ≤ c * r ⌝ }
     requires { ⌜ length (now map) ≡ c * r ⌝ }
     requires { ⌜ at + 6 * n ≤ length (now s) ⌝ }
-    requires { ⌜ e + colours 3 ≤ size 3 ⌝ }
-    ensures { λ _. ⌜ now (pic .exit) ≡ puts c k (λ i. chosen (flags 3 (part (now (s .entry)) (at + 6 * i) 6)) (part (now (t .entry)) e (colours 3))) n (now (pic .entry)) ⌝ }
+    requires { ⌜ length (now t) ≡ colours 3 ⌝ }
+    ensures { λ _. ⌜ now (pic .exit) ≡ puts c k (λ i. chosen (flags 3 (part (now (s .entry)) (at + 6 * i) 6)) (now (t .entry))) n (now (pic .entry)) ⌝ }
     ensures { λ _. ⌜ now (map .exit) ≡ marks k n (now (map .entry)) ⌝ }
 {
     let mut i = 0;
@@ -210,7 +206,6 @@ pub fn octet_run(
             r,
             k + i,
             t,
-            e,
             s[q],
             s[q + 1],
             s[q + 2],

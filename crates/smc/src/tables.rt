@@ -1,6 +1,7 @@
 // The three colour tables of a chunk. A table is one run of colours, entry after entry, and the number of its next entry.
 use crate::heads;
 ghost use mathlib.Core.Path.{_≡_};
+ghost use mathlib.Core.Bool.{true};
 ghost use Prim.Native.Nat.{_+_, _*_, _%_, _≤_, _<_};
 ghost use lib.ListN.{length};
 ghost use lib.Seq.{sets};
@@ -131,4 +132,23 @@ pub fn entry_of(
         rest: q + 1,
         next,
     }
+}
+
+// The w colours at t[e]. Where they have just been stored they are read at s[q], whence they came: there a read waits for no write.
+pub fn colours_at<'a>(
+    t: &'a [u8],
+    e: usize,
+    stored: bool,
+    s: &'a [u8],
+    q: usize,
+    w: usize,
+) -> &'a [u8]
+    requires { ⌜ e + w ≤ length (now t) ⌝ }
+    requires { ⌜ (stored ≡ true → (q + w ≤ length (now s)) × (part (now s) q w ≡ part (now t) e w)) ⌝ }
+    ensures { λ r. ⌜ now r ≡ part (now (t .entry)) e w ⌝ }
+{
+    if stored {
+        return &s[q..q + w];
+    }
+    &t[e..e + w]
 }

@@ -3,7 +3,6 @@ use mathlib.Core.List.{List}
 use mathlib.Core.Path.{ap, _∙_}
 use native.Mathlib.Omega.{arith}
 use borrow.Author.Needs.{needs}
-use Rattle.spec.specs.Basics.{part}
 use Rattle.spec.specs.Pictures.{putBlock}
 use Rattle.smc.proofs.Flagged.{four-chosen, octet-rows}
 use Rattle.blocks.proofs.Rowwise.{few, span}
@@ -12,34 +11,34 @@ use Rattle.smc.proofs.flags.put_octet.Statement.{statement}
 use Rattle.smc.proofs.flags.put_octet.Tie as tie
 
 place-of-requires : tie.Need-place-of-requires
-place-of-requires c κs = omega (arith, few (c .before .args .c) (c .before .args .r) (c .before .args .k) (omega arith) (omega arith) (omega arith))
+place-of-requires c κs = omega (arith, few (c .before .before .args .c) (c .before .before .args .r) (c .before .before .args .k) (omega arith) (omega arith) (omega arith))
 
 mul-w : tie.Need-mul-w
 mul-w c = search needs
 
 put-octet-row-requires : tie.Need-put-octet-row-requires
-put-octet-row-requires c κs = omega (arith, span _ _ _ _ (c .before .before .before .pre .0) (c .before .before .before .pre .1 .0))
+put-octet-row-requires c κs = omega (arith, span _ _ _ _ (c .before .before .before .before .pre .0) (c .before .before .before .before .pre .1 .0))
 
 add-put-octet-row : tie.Need-add-put-octet-row
-add-put-octet-row c = omega (arith, span _ _ _ _ (c .before .before .before .before .before .before .before .pre .0) (c .before .before .before .before .before .before .before .pre .1 .0))
+add-put-octet-row c = omega (arith, span _ _ _ _ (c .before .before .before .before .before .before .before .before .pre .0) (c .before .before .before .before .before .before .before .before .pre .1 .0))
 
 put-octet-row-requires-2 : tie.Need-put-octet-row-requires-2
-put-octet-row-requires-2 c κs = omega (arith, span _ _ _ _ (c .before .before .before .before .before .before .before .pre .0) (c .before .before .before .before .before .before .before .pre .1 .0))
+put-octet-row-requires-2 c κs = omega (arith, span _ _ _ _ (c .before .before .before .before .before .before .before .before .pre .0) (c .before .before .before .before .before .before .before .before .pre .1 .0))
 
 mul-put-octet-row : tie.Need-mul-put-octet-row
 mul-put-octet-row c = search needs
 
 add-put-octet-row-2 : tie.Need-add-put-octet-row-2
-add-put-octet-row-2 c = omega (arith, span _ _ _ _ (c .before .before .before .before .before .before .before .before .before .before .before .pre .0) (c .before .before .before .before .before .before .before .before .before .before .before .pre .1 .0))
+add-put-octet-row-2 c = omega (arith, span _ _ _ _ (c .before .before .before .before .before .before .before .before .before .before .before .before .pre .0) (c .before .before .before .before .before .before .before .before .before .before .before .before .pre .1 .0))
 
 put-octet-row-requires-3 : tie.Need-put-octet-row-requires-3
-put-octet-row-requires-3 c κs = omega (arith, span _ _ _ _ (c .before .before .before .before .before .before .before .before .before .before .before .pre .0) (c .before .before .before .before .before .before .before .before .before .before .before .pre .1 .0))
+put-octet-row-requires-3 c κs = omega (arith, span _ _ _ _ (c .before .before .before .before .before .before .before .before .before .before .before .before .pre .0) (c .before .before .before .before .before .before .before .before .before .before .before .before .pre .1 .0))
 
 mul-put-octet-row-2 : tie.Need-mul-put-octet-row-2
 mul-put-octet-row-2 c = search needs
 
 add-put-octet-row-3 : tie.Need-add-put-octet-row-3
-add-put-octet-row-3 c = omega (arith, span _ _ _ _ (c .before .before .before .before .before .before .before .before .before .before .before .before .before .before .before .pre .0) (c .before .before .before .before .before .before .before .before .before .before .before .before .before .before .before .pre .1 .0))
+add-put-octet-row-3 c = omega (arith, span _ _ _ _ (c .before .before .before .before .before .before .before .before .before .before .before .before .before .before .before .before .pre .0) (c .before .before .before .before .before .before .before .before .before .before .before .before .before .before .before .before .pre .1 .0))
 
 mul-put-octet-row-3 : tie.Need-mul-put-octet-row-3
 mul-put-octet-row-3 c = search needs
@@ -48,15 +47,15 @@ add-put-octet-row-4 : tie.Need-add-put-octet-row-4
 add-put-octet-row-4 c = search needs
 
 put-octet-row-requires-4 : tie.Need-put-octet-row-requires-4
-put-octet-row-requires-4 c κs = omega (arith, span _ _ _ _ (c .before .before .before .before .before .before .before .before .before .before .before .before .before .before .before .pre .0) (c .before .before .before .before .before .before .before .before .before .before .before .before .before .before .before .pre .1 .0))
+put-octet-row-requires-4 c κs = omega (arith, span _ _ _ _ (c .before .before .before .before .before .before .before .before .before .before .before .before .before .before .before .before .pre .0) (c .before .before .before .before .before .before .before .before .before .before .before .before .before .before .before .before .pre .1 .0))
 
 same-length : tie.Need-same-length
 same-length c = search needs
 
 returns : tie.Need-returns
 returns c =
-    let a = c .before .before .before .before .before .before .before .before .before .before .before .before .before .before .before .before .before .before .args in
-    let cs = part (a .t .now) (a .e) 8 in
+    let a = c .before .before .before .before .before .before .before .before .before .before .before .before .before .before .before .before .before .before .before .args in
+    let cs = a .t .now in
     rw (c .before .before .put-octet-row4 .ensures, c .before .before .before .before .before .before .put-octet-row3 .ensures, c .before .before .before .before .before .before .before .before .before .before .put-octet-row2 .ensures, c .before .before .before .before .before .before .before .before .before .before .before .before .before .before .put-octet-row .ensures)
     (put-rows _ _ _ (c .before .before .before .before .before .before .before .before .before .before .before .before .before .before .before .before .place-of .ensures) _ (four-chosen 3 _ cs) (four-chosen 3 _ cs) (four-chosen 3 _ cs) (four-chosen 3 _ cs)
     ∙ ap (λ (px : List ℕ). putBlock (a .c) (a .k) px (a .pic .now)) (octet-rows cs (a .f0) (a .f1) (a .f2) (a .f3) (a .f4) (a .f5) (omega arith) (omega arith) (omega arith) (omega arith)))

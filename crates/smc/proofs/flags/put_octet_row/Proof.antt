@@ -17,38 +17,26 @@ add-c c = search needs
 cast-put-four : tie.Need-cast-put-four
 cast-put-four c = search needs
 
-add-put-four : tie.Need-add-put-four
-add-put-four c = search needs
-
-element-copy-out-put-four : tie.Need-element-copy-out-put-four
-element-copy-out-put-four c = search needs
+shared-slice-read-put-four : tie.Need-shared-slice-read-put-four
+shared-slice-read-put-four c = search needs
 
 cast-put-four-2 : tie.Need-cast-put-four-2
 cast-put-four-2 c = search needs
 
-add-put-four-2 : tie.Need-add-put-four-2
-add-put-four-2 c = search needs
-
-element-copy-out-put-four-2 : tie.Need-element-copy-out-put-four-2
-element-copy-out-put-four-2 c = search needs
+shared-slice-read-put-four-2 : tie.Need-shared-slice-read-put-four-2
+shared-slice-read-put-four-2 c = search needs
 
 cast-put-four-3 : tie.Need-cast-put-four-3
 cast-put-four-3 c = search needs
 
-add-put-four-3 : tie.Need-add-put-four-3
-add-put-four-3 c = search needs
-
-element-copy-out-put-four-3 : tie.Need-element-copy-out-put-four-3
-element-copy-out-put-four-3 c = search needs
+shared-slice-read-put-four-3 : tie.Need-shared-slice-read-put-four-3
+shared-slice-read-put-four-3 c = search needs
 
 cast-put-four-4 : tie.Need-cast-put-four-4
 cast-put-four-4 c = search needs
 
-add-put-four-4 : tie.Need-add-put-four-4
-add-put-four-4 c = search needs
-
-element-copy-out-put-four-4 : tie.Need-element-copy-out-put-four-4
-element-copy-out-put-four-4 c = search needs
+shared-slice-read-put-four-4 : tie.Need-shared-slice-read-put-four-4
+shared-slice-read-put-four-4 c = search needs
 
 put-four-requires : tie.Need-put-four-requires
 put-four-requires c κs = search needs
@@ -58,9 +46,8 @@ same-length c = search needs
 
 returns : tie.Need-returns
 returns c =
-    let a = c .before .before .before .before .before .before .before .before .before .args in
-    c .before .before .put-four .ensures
-    ∙ ap (λ (l : List ℕ). sets (a .pic .now) (a .p) l) (octet-row (a .t .now) (a .e) (a .f) (a .g) (omega arith) (omega arith))
+    let a = c .before .before .before .before .before .before .before .before .before .before .args in
+    c .before .before .put-four .ensures ∙ ap (λ (l : List ℕ). sets (a .pic .now) (a .p) l) (octet-row (a .t .now) (a .f) (a .g) (omega arith) (omega arith))
 
 pub put-octet-row-spec : {M : Type 1} → statement M
 put-octet-row-spec =
@@ -69,17 +56,13 @@ put-octet-row-spec =
     mul-c
     add-c
     cast-put-four
-    add-put-four
-    element-copy-out-put-four
+    shared-slice-read-put-four
     cast-put-four-2
-    add-put-four-2
-    element-copy-out-put-four-2
+    shared-slice-read-put-four-2
     cast-put-four-3
-    add-put-four-3
-    element-copy-out-put-four-3
+    shared-slice-read-put-four-3
     cast-put-four-4
-    add-put-four-4
-    element-copy-out-put-four-4
+    shared-slice-read-put-four-4
     put-four-requires
     same-length
     returns)

@@ -1,8 +1,6 @@
 use native.Mathlib.Omega.{arith}
 use borrow.Author.Needs.{needs}
-use Rattle.spec.specs.Basics.{part}
 use Rattle.blocks.specs.Blocks.{pixels}
-use Rattle.smc.specs.Tables.{colours}
 use Rattle.smc.proofs.Flagged.{quad-rows}
 use Rattle.smc.proofs.flags.quad_rows.Statement.{statement}
 use Rattle.smc.proofs.flags.quad_rows.Tie as tie
@@ -22,9 +20,9 @@ quad-row-requires-4 c κs = search needs
 returns : tie.Need-returns
 unfolding pixels
 returns c =
-    let a = c .before .before .before .before .args in
+    let a = c .before .before .before .before .before .args in
     rw (c .before .before .before .quad-row .ensures, c .before .before .quad-row2 .ensures, c .before .quad-row3 .ensures, c .quad-row4 .ensures)
-    (quad-rows (part (a .t .now) (a .e) (colours 2)) (a .f0) (a .f1) (a .f2) (a .f3) (omega arith) (omega arith) (omega arith))
+    (quad-rows (a .t .now) (a .f0) (a .f1) (a .f2) (a .f3) (omega arith) (omega arith) (omega arith))
 
 pub quad-rows-spec : {M : Type 1} → statement M
 quad-rows-spec =

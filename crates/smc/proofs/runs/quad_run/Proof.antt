@@ -5,20 +5,19 @@ use native.Mathlib.Omega.{arith}
 use borrow.Author.Needs.{needs}
 use Rattle.spec.specs.Basics.{part}
 use Rattle.spec.specs.Flags.{flags, chosen}
-use Rattle.smc.specs.Tables.{colours}
 use Rattle.smc.proofs.Flagged.{four-bytes}
 use Rattle.smc.proofs.Runwise.{Putting, running-none, running-more, running-all}
 use Rattle.smc.proofs.runs.quad_run.Statement.{statement}
 use Rattle.smc.proofs.runs.quad_run.Tie as tie
 
 abbrev Inv-loop : tie.InvT-loop
-Inv-loop pic₀ map₀ c r k n t e s at i₀ pic map i = Putting c r k n (λ j. chosen (flags 2 (part s (at + 4 * j) 4)) (part t e (colours 2))) pic₀ map₀ i pic map
+Inv-loop pic₀ map₀ c r k n t s at i₀ pic map i = Putting c r k n (λ j. chosen (flags 2 (part s (at + 4 * j) 4)) t) pic₀ map₀ i pic map
 
 abbrev μ-loop : tie.MeasureT-loop
-μ-loop pic₀ map₀ c r k n t e s at i₀ pic map i = n - i
+μ-loop pic₀ map₀ c r k n t s at i₀ pic map i = n - i
 
 loop-holds : tie.Need-loop-holds Inv-loop μ-loop
-loop-holds c = running-none _ _ _ _ _ _ _ _ (c .before .before .before .pre .0) (c .before .before .before .pre .1 .1 .0)
+loop-holds c = running-none _ _ _ _ _ _ _ _ (c .before .before .before .before .pre .0) (c .before .before .before .before .pre .1 .1 .0)
 
 mul-q : tie.Need-mul-q Inv-loop μ-loop
 mul-q c = search needs
@@ -66,17 +65,17 @@ loop-less c = search needs
 
 loop-again : tie.Need-loop-again Inv-loop μ-loop
 loop-again c =
-    let a = c .before .before .before .before .before .before .before .before .before .before .before .before .before .before .before .before .before .args in
+    let a = c .before .before .before .before .before .before .before .before .before .before .before .before .before .before .before .before .before .before .args in
     let g = c .before .before .before .before .before .before .before .before .before .before .before .before .before .loop .inv in
     let q = a .at + 4 * c .before .before .before .before .before .before .before .before .before .before .before .before .before .loop .i in
-    let px = c .before .before .before .before .before .before .before .quad-rows .ensures ∙ ap (λ (bs : List ℕ). chosen (flags 2 bs) (part (a .t .now) (a .e) (colours 2))) (four-bytes (a .s .now) q (omega arith)) in
+    let px = c .before .before .before .before .before .before .before .quad-rows .ensures ∙ ap (λ (bs : List ℕ). chosen (flags 2 bs) (a .t .now)) (four-bytes (a .s .now) q (omega arith)) in
     running-more _ _ _ _ _ _ _ _ _ _ _ g (omega arith) _ px _ _ (c .before .before .before .before .settle .ensures .0) (c .before .before .before .before .settle .ensures .1)
 
 same-length : tie.Need-same-length Inv-loop μ-loop
 same-length c = c .before .loop .inv .same
 
 same-length-2 : tie.Need-same-length-2 Inv-loop μ-loop
-same-length-2 c = c .before .loop .inv .entries ∙ sym (c .before .before .before .before .before .pre .1 .1 .0)
+same-length-2 c = c .before .loop .inv .entries ∙ sym (c .before .before .before .before .before .before .pre .1 .1 .0)
 
 returns : tie.Need-returns Inv-loop μ-loop
 returns c =
