@@ -1,6 +1,6 @@
 -- A block's pixels by its flags, row by row. Assumes nothing.
 use Prim.Native.Nat.{ℕ, _+_, _*_, _/_, _%_, _<_, _≤_}
-use mathlib.Core.Path.{_≡_, sym}
+use mathlib.Core.Path.{_≡_, refl, sym}
 use mathlib.Core.List.{List, [], _∷_, _++_, map-append}
 use native.Mathlib.Nat.{add-zero}
 use native.Mathlib.Omega.{arith}
@@ -59,6 +59,13 @@ pub quad-rows : (cs : List ℕ) (f g h k : ℕ) → g < 256 → h < 256 → k < 
     → chosen (digits 2 4 f) cs ++ chosen (digits 2 4 g) cs ++ chosen (digits 2 4 h) cs ++ chosen (digits 2 4 k) cs ≡ chosen (flags 2 (f ∷ g ∷ h ∷ k ∷ [])) cs
 quad-rows cs f g h k hg hh hk =
     sym (chosen-rows cs (digits 2 4 f) (digits 2 4 g) (digits 2 4 h) (digits 2 4 k) _ (quad-flags f g h k hg hh hk))
+
+-- two colours, one by one
+pub two-colours : (l : List ℕ) → length l ≡ 2 → getD l 0 0 ∷ getD l 1 0 ∷ [] ≡ l
+two-colours [] e = absurd (omega arith)
+two-colours (a ∷ []) e = absurd (omega arith)
+two-colours (a ∷ b ∷ []) e = refl
+two-colours (a ∷ b ∷ c ∷ l) e = absurd (omega arith)
 
 -- a block's flag bytes, one by one
 pub two-bytes : (s : List ℕ) (q : ℕ) → q + 2 ≤ length s → getD s q 0 ∷ getD s (q + 1) 0 ∷ [] ≡ part s q 2

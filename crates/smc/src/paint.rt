@@ -102,7 +102,15 @@ fn pair_op(
     let n = lead.count;
     let entry = tables::entry_of(t, PairTable::COLOURS, lead.upper, 8, next, s, lead.body);
     let rest = entry.rest;
-    runs::pair_run(factors, pic, map, c, r, k, n, t, entry.at, s, rest);
+    let colours = tables::colours_at(
+        t,
+        entry.at,
+        lead.upper == 8,
+        s,
+        lead.body,
+        PairTable::COLOURS,
+    );
+    runs::pair_run(factors, pic, map, c, r, k, n, colours, s, rest);
     Stored {
         at: rest + 2 * n,
         k: k + n,

@@ -1,7 +1,6 @@
 // Runs of blocks in picture and map, each painted in place, one after the other.
 use crate::flags;
 use crate::put;
-use crate::tables::PairTable;
 use blocks::Rows;
 use spec::SETTLED;
 ghost use mathlib.Core.Path.{_≡_};
@@ -14,7 +13,7 @@ ghost use Rattle.spec.specs.Pictures.{blockAt, putBlock};
 ghost use Rattle.blocks.specs.Blocks.{pixels, Canvas};
 ghost use Rattle.smc.specs.Factors.{Factors};
 ghost use Rattle.smc.specs.Runs.{puts, marks, copied, moved};
-ghost use Rattle.smc.specs.Tables.{colours, size};
+ghost use Rattle.smc.specs.Tables.{colours};
 
 // Puts a given block and settles its entry.
 fn settle(pic: &mut [u8], map: &mut [u16], c: usize, r: usize, k: usize, rows: Rows)
@@ -113,7 +112,7 @@ pub fn whole_run(
     }
 }
 
-// n blocks from block k on by the flags at s[at], two bytes a block, with the colours at t[e].
+// n blocks from block k on by the flags at s[at], two bytes a block, with the colours t.
 pub fn pair_run(
     factors: &[u32; 16],
     pic: &mut [u8],
@@ -122,8 +121,7 @@ pub fn pair_run(
     r: usize,
     k: usize,
     n: usize,
-    t: &[u8; PairTable::CAPACITY * PairTable::COLOURS],
-    e: usize,
+    t: &[u8],
     s: &[u8],
     at: usize,
 )
@@ -131,14 +129,13 @@ pub fn pair_run(
     requires { ⌜ k + n ≤ c * r ⌝ }
     requires { ⌜ length (now map) ≡ c * r ⌝ }
     requires { ⌜ at + 2 * n ≤ length (now s) ⌝ }
-    requires { ⌜ e + colours 1 ≤ size 1 ⌝ }
-    requires { ⌜ length (now t) ≡ size 1 ⌝ }
+    requires { ⌜ length (now t) ≡ colours 1 ⌝ }
     requires { ⌜ Factors (now factors) ⌝ }
-    ensures { λ _. ⌜ now (pic .exit) ≡ puts c k (λ i. chosen (flags 1 (part (now (s .entry)) (at + 2 * i) 2)) (part (now (t .entry)) e (colours 1))) n (now (pic .entry)) ⌝ }
+    ensures { λ _. ⌜ now (pic .exit) ≡ puts c k (λ i. chosen (flags 1 (part (now (s .entry)) (at + 2 * i) 2)) (now (t .entry))) n (now (pic .entry)) ⌝ }
     ensures { λ _. ⌜ now (map .exit) ≡ marks k n (now (map .entry)) ⌝ }
 {
-    let c0 = t[e];
-    let c1 = t[e + 1];
+    let c0 = t[0];
+    let c1 = t[1];
     let mut i = 0;
     while i < n {
         let q = at + 2 * i;

@@ -6,29 +6,25 @@ use lib.ListN.{getD}
 use borrow.Author.Needs.{needs}
 use Rattle.spec.specs.Basics.{part}
 use Rattle.spec.specs.Flags.{flags, chosen}
-use Rattle.smc.specs.Tables.{colours}
-use Rattle.smc.proofs.Flagged.{two-bytes}
+use Rattle.smc.proofs.Flagged.{two-bytes, two-colours}
 use Rattle.smc.proofs.Runwise.{Putting, running-none, running-more, running-all}
 use Rattle.smc.proofs.runs.pair_run.Statement.{statement}
 use Rattle.smc.proofs.runs.pair_run.Tie as tie
 
 abbrev Inv-loop : tie.InvT-loop
-Inv-loop factors pic₀ map₀ c r k n t e s at c0 c1 i₀ pic map i = Putting c r k n (λ j. chosen (flags 1 (part s (at + 2 * j) 2)) (part t e (colours 1))) pic₀ map₀ i pic map
+Inv-loop factors pic₀ map₀ c r k n t s at c0 c1 i₀ pic map i = Putting c r k n (λ j. chosen (flags 1 (part s (at + 2 * j) 2)) t) pic₀ map₀ i pic map
 
 abbrev μ-loop : tie.MeasureT-loop
-μ-loop factors pic₀ map₀ c r k n t e s at c0 c1 i₀ pic map i = n - i
+μ-loop factors pic₀ map₀ c r k n t s at c0 c1 i₀ pic map i = n - i
 
-element-copy-out-c0 : tie.Need-element-copy-out-c0 Inv-loop μ-loop
-element-copy-out-c0 c = search needs
+shared-slice-read-c0 : tie.Need-shared-slice-read-c0 Inv-loop μ-loop
+shared-slice-read-c0 c = search needs
 
-add-c1 : tie.Need-add-c1 Inv-loop μ-loop
-add-c1 c = search needs
-
-element-copy-out-c1 : tie.Need-element-copy-out-c1 Inv-loop μ-loop
-element-copy-out-c1 c = search needs
+shared-slice-read-c1 : tie.Need-shared-slice-read-c1 Inv-loop μ-loop
+shared-slice-read-c1 c = search needs
 
 loop-holds : tie.Need-loop-holds Inv-loop μ-loop
-loop-holds c = running-none _ _ _ _ _ _ _ _ (c .before .before .before .before .before .pre .0) (c .before .before .before .before .before .pre .1 .1 .0)
+loop-holds c = running-none _ _ _ _ _ _ _ _ (c .before .before .before .before .before .before .pre .0) (c .before .before .before .before .before .before .pre .1 .1 .0)
 
 mul-q : tie.Need-mul-q Inv-loop μ-loop
 mul-q c = search needs
@@ -64,20 +60,20 @@ loop-less c = search needs
 
 loop-again : tie.Need-loop-again Inv-loop μ-loop
 loop-again c =
-    let a = c .before .before .before .before .before .before .before .before .before .before .before .before .before .before .before .before .before .args in
+    let a = c .before .before .before .before .before .before .before .before .before .before .before .before .before .before .before .before .before .before .args in
     let g = c .before .before .before .before .before .before .before .before .before .before .before .loop .inv in
     let q = a .at + 2 * c .before .before .before .before .before .before .before .before .before .before .before .loop .i in
     let px =
     c .before .before .before .before .before .before .before .pair-rows .ensures
-    ∙ ap (λ (bs : List ℕ). chosen (flags 1 bs) (getD (a .t .now) (a .e) 0 ∷ getD (a .t .now) (a .e + 1) 0 ∷ [])) (two-bytes (a .s .now) q (omega arith))
-    ∙ ap (λ (cs : List ℕ). chosen (flags 1 (part (a .s .now) q 2)) cs) (two-bytes (a .t .now) (a .e) (omega (arith, c .before .before .before .before .before .before .before .before .before .before .before .before .before .before .before .before .before .pre .1 .1 .1 .1 .0, c .before .before .before .before .before .before .before .before .before .before .before .before .before .before .before .before .before .pre .1 .1 .1 .1 .1 .0))) in
+    ∙ ap (λ (bs : List ℕ). chosen (flags 1 bs) (getD (a .t .now) 0 0 ∷ getD (a .t .now) 1 0 ∷ [])) (two-bytes (a .s .now) q (omega arith))
+    ∙ ap (λ (cs : List ℕ). chosen (flags 1 (part (a .s .now) q 2)) cs) (two-colours (a .t .now) (c .before .before .before .before .before .before .before .before .before .before .before .before .before .before .before .before .before .before .pre .1 .1 .1 .1 .0)) in
     running-more _ _ _ _ _ _ _ _ _ _ _ g (omega arith) _ px _ _ (c .before .before .before .before .settle .ensures .0) (c .before .before .before .before .settle .ensures .1)
 
 same-length : tie.Need-same-length Inv-loop μ-loop
 same-length c = c .before .loop .inv .same
 
 same-length-2 : tie.Need-same-length-2 Inv-loop μ-loop
-same-length-2 c = c .before .loop .inv .entries ∙ sym (c .before .before .before .before .before .before .before .pre .1 .1 .0)
+same-length-2 c = c .before .loop .inv .entries ∙ sym (c .before .before .before .before .before .before .before .before .pre .1 .1 .0)
 
 returns : tie.Need-returns Inv-loop μ-loop
 returns c =
@@ -90,9 +86,8 @@ pair-run-spec =
     (tie.spec
     Inv-loop
     μ-loop
-    element-copy-out-c0
-    add-c1
-    element-copy-out-c1
+    shared-slice-read-c0
+    shared-slice-read-c1
     loop-holds
     mul-q
     add-q
