@@ -1,0 +1,231 @@
+/*
+ * What an input means: a board, and up to eight calls on it.
+ *
+ *   width, height   a byte each, taken for an allowed size
+ *   picture         a byte: pixel k starts as k times that
+ *   calls           a byte each, CALL and flags below, and what that call takes:
+ *     any call that is ODD   a size and lengths that need not be allowed: see odd_board
+ *     READ, WALK             a length, two bytes, lowest first, and as many bytes
+ *     WRITE                  the output's room and the new picture: see write_call
+ *     NUMBERS                a length and bytes, which become the map, over and over
+ *
+ * Bytes after the input's end are 0.
+ */
+#include <string.h>
+
+#include "inputs.h"
+#include "loans.h"
+#include "promises.h"
+
+enum { FRESH_MAP, COUNT, NUMBERS, WALK, WRITE, READ, CALL = 7 }; /* 6 and 7 read too */
+enum {
+    EARLY = 8,    /* the buffers begin where their pages begin */
+    ODD = 16,
+    REPAIR = 32,  /* the chunk states its length; the feed has the board's size, and its chunks state theirs */
+    OVERLAP = 32, /* the new picture starts in the old one */
+    CLOSE = 64    /* the chunk is made one that is accepted */
+};
+
+struct input {
+    const uint8_t *at, *end;
+};
+
+static struct board board, trial;
+static uint8_t bytes[ROOM], new_picture[MOST];
+
+static unsigned next(struct input *in)
+{
+    return in->at < in->end ? *in->at++ : 0;
+}
+
+static unsigned next_pair(struct input *in)
+{
+    unsigned low = next(in);
+    return low | next(in) << 8;
+}
+
+/* Copies as many bytes as a length says and the input has. */
+static size_t next_bytes(struct input *in, uint8_t *to)
+{
+    size_t length = next_pair(in), left = (size_t)(in->end - in->at);
+    if (length > left)
+        length = left;
+    memcpy(to, in->at, length);
+    in->at += length;
+    return length;
+}
+
+/* ---- sizes and lengths that need not be allowed ---- */
+
+#define BIT(n) ((size_t)1 << (n))
+
+/* One more kind than there are sides leaves the side as it is. */
+static size_t odd_side(unsigned kind, size_t side)
+{
+    static const size_t sides[] = {
+        0, 1, 2, 3, 5, 6, 201, 202, 204, 256, 319, 321, 324, BIT(16) + 4, BIT(31), BIT(32), BIT(32) + 4, BIT(32) + 8,
+        BIT(60), BIT(61), BIT(62), BIT(62) + 4, BIT(63), BIT(63) + 4, SIZE_MAX - 3, SIZE_MAX - 1, SIZE_MAX,
+    };
+    size_t count = sizeof sides / sizeof *sides;
+    return kind % (count + 1) < count ? sides[kind % (count + 1)] : side;
+}
+
+/* A length of its kind, as far as there is room for it, behind a shift too. */
+static size_t odd_length(unsigned kind, size_t length, size_t product)
+{
+    /* the product may have wrapped */
+    const size_t lengths[] = {length, 0, length - 1, length + 1, length / 2, 2 * length, length + 65536, product};
+    size_t odd = lengths[kind % 8];
+    return odd <= MOST - 256 ? odd : length;
+}
+
+/* Three bytes: width, height, and three bits for each length. */
+static void odd_board(struct input *in)
+{
+    board.size.width = odd_side(next(in), board.size.width);
+    board.size.height = odd_side(next(in), board.size.height);
+    size_t product = board.size.width * board.size.height;
+    unsigned lengths = next(in);
+    board.pixels = odd_length(lengths, board.pixels, product);
+    board.blocks = odd_length(lengths >> 3, board.blocks, product / 16);
+}
+
+/* ---- chunks and feeds ---- */
+
+static void state_length(uint8_t *chunk, size_t length)
+{
+    if (length < 4)
+        return;
+    chunk[1] = (uint8_t)(length >> 16);
+    chunk[2] = (uint8_t)(length >> 8);
+    chunk[3] = (uint8_t)length;
+}
+
+/* Makes a chunk that is accepted: what is refused is cut off, and the blocks that remain are skipped. */
+static size_t close_chunk(uint8_t *chunk, size_t length)
+{
+    size_t skip = 256;
+    copy_board(&trial, &board); /* a refused chunk changes nothing, and an accepted one is the last */
+    for (int turn = 0; turn < 200; turn++) {
+        state_length(chunk, length);
+        struct seatboard_answer said =
+            seatboard_read_chunk(trial.size, chunk, length, trial.picture, trial.pixels, trial.map, trial.blocks);
+        if (said.number <= SEATBOARD_LENGTH_DIFFERS)
+            break;
+        if (said.number == SEATBOARD_BLOCKS_REMAIN) {
+            chunk[length++] = 0x10;
+            chunk[length++] = (uint8_t)(skip - 1);
+            continue;
+        }
+        if (said.number == SEATBOARD_PAST_LAST_BLOCK && skip > 1)
+            skip /= 2;
+        if (said.place < 4 || said.place >= length)
+            break; /* try_read will say so */
+        length = said.place;
+    }
+    return length;
+}
+
+static void read_call(struct input *in, unsigned how)
+{
+    size_t length = next_bytes(in, bytes);
+    if (how & REPAIR)
+        state_length(bytes, length);
+    if (how & CLOSE)
+        length = close_chunk(bytes, length);
+    try_read(&board, bytes, length);
+}
+
+static void walk_call(struct input *in, unsigned how)
+{
+    size_t start = how & REPAIR ? 2 : 0, length = start + next_bytes(in, bytes + start), chunk;
+    if (how & REPAIR) {
+        bytes[0] = (uint8_t)(board.size.width / 4);
+        bytes[1] = (uint8_t)(board.size.height / 4);
+        for (size_t at = 2; number_at(bytes, length, &at, &chunk) == 0 && chunk <= length - at; at += chunk)
+            state_length(bytes + at, chunk);
+    }
+    try_walk(&board, bytes, length);
+}
+
+/* ---- pictures and maps ---- */
+
+/* Paints runs of blocks in the new picture: how many runs, then for each the first block (two bytes), the number of
+ * blocks, the length of a pattern, and the pattern, which each block repeats. */
+static void paint_runs(struct input *in)
+{
+    size_t width = board.size.width;
+    for (unsigned runs = next(in) % 32; runs > 0; runs--) {
+        size_t first = next_pair(in) % board.blocks, count = next(in) + 1, length = next(in) % 16 + 1;
+        uint8_t pattern[16];
+        for (size_t k = 0; k < length; k++)
+            pattern[k] = (uint8_t)next(in);
+        for (size_t block = first; block < first + count && block < board.blocks; block++)
+            for (size_t k = 0; k < 16; k++)
+                new_picture[corner_of(block, width) + k / 4 * width + k % 4] = pattern[k % length];
+    }
+}
+
+/* A byte for the output's room, and one for the new picture's length where that is odd. The new picture is the old one,
+ * overlapping and shifted by a byte's number, or with runs painted. */
+static void write_call(struct input *in, unsigned how)
+{
+    struct wish wish = {new_picture, board.pixels, how & OVERLAP, next(in)};
+    if (how & ODD)
+        wish.pixels = odd_length(next(in), wish.pixels, 16);
+    memcpy(new_picture, board.picture, board.pixels);
+    if (how & OVERLAP)
+        wish.picture = board.picture + next(in);
+    else if (board_refusal(&board) == 0)
+        paint_runs(in);
+    try_write(&board, &wish);
+}
+
+static void numbers_call(struct input *in)
+{
+    size_t length = next_bytes(in, bytes);
+    for (size_t k = 0; length > 0 && k < board.blocks && k < MAX_BLOCKS; k++)
+        board.map[k] = (uint16_t)(bytes[2 * k % length] | bytes[(2 * k + 1) % length] << 8);
+}
+
+/* ---- the whole ---- */
+
+static void one_call(struct input *in)
+{
+    unsigned how = next(in);
+    struct seatboard_size size = board.size;
+    size_t pixels = board.pixels, blocks = board.blocks;
+    lend_early = how & EARLY;
+    if (how & ODD)
+        odd_board(in);
+    switch (how & CALL) {
+    case FRESH_MAP: try_fresh_map(&board); break;
+    case COUNT: try_count(&board); break;
+    case NUMBERS: numbers_call(in); break;
+    case WALK: walk_call(in, how); break;
+    case WRITE: write_call(in, how); break;
+    default: read_call(in, how);
+    }
+    board.size = size;
+    board.pixels = pixels;
+    board.blocks = blocks;
+}
+
+void attack(const uint8_t *input, size_t length)
+{
+    struct input in = {input, input + length};
+    /* what an earlier input can have left: no call was ever accepted on more than this */
+    memset(board.picture, 0, MAX_PIXELS);
+    memset(board.map, 0, MAX_BLOCKS * sizeof *board.map);
+    board.size.width = 4 * (next(&in) % (SEATBOARD_MAX_WIDTH / 4) + 1);
+    board.size.height = 4 * (next(&in) % (SEATBOARD_MAX_HEIGHT / 4) + 1);
+    board.pixels = SEATBOARD_PIXELS(board.size.width, board.size.height);
+    board.blocks = SEATBOARD_BLOCKS(board.size.width, board.size.height);
+    unsigned step = next(&in);
+    for (size_t k = 0; k < board.pixels; k++)
+        board.picture[k] = (uint8_t)(k * step);
+    for (size_t k = 0; k < board.blocks; k++)
+        board.map[k] = (uint16_t)k;
+    for (int calls = 0; in.at < in.end && calls < 8; calls++)
+        one_call(&in);
+}

@@ -1,0 +1,407 @@
+#include "promises.h"
+
+#include <stdio.h>
+#include <stdlib.h>
+#include <string.h>
+#include <sys/mman.h>
+
+#include "loans.h"
+
+/* The text of what was promised is all that is needed to find the place. */
+#define PROMISE(holds) ((holds) ? (void)0 : broken(#holds))
+
+#define OUTPUT_BYTE 0xC3
+
+typedef struct seatboard_answer Answer;
+
+static struct board start, twin; /* the board that a call is given, and another to try the like on */
+static uint8_t outputs[2][MOST], wanted[MOST], feed_of_one[MOST];
+
+static void broken(const char *promise)
+{
+    fprintf(stderr, "not kept: %s\n", promise);
+    abort();
+}
+
+/* ---- boards and answers ---- */
+
+bool allowed(struct seatboard_size size)
+{
+    return size.width % 4 == 0 && 4 <= size.width && size.width <= SEATBOARD_MAX_WIDTH && size.height % 4 == 0 &&
+           4 <= size.height && size.height <= SEATBOARD_MAX_HEIGHT;
+}
+
+unsigned map_refusal(const struct board *board)
+{
+    if (!allowed(board->size))
+        return SEATBOARD_BAD_SIZE;
+    return board->blocks == SEATBOARD_BLOCKS(board->size.width, board->size.height) ? 0 : SEATBOARD_BAD_LENGTH;
+}
+
+unsigned board_refusal(const struct board *board)
+{
+    unsigned refusal = map_refusal(board);
+    if (refusal)
+        return refusal;
+    return board->pixels == SEATBOARD_PIXELS(board->size.width, board->size.height) ? 0 : SEATBOARD_BAD_LENGTH;
+}
+
+void copy_board(struct board *to, const struct board *from)
+{
+    to->size = from->size;
+    to->pixels = from->pixels;
+    to->blocks = from->blocks;
+    memcpy(to->picture, from->picture, from->pixels);
+    memcpy(to->map, from->map, from->blocks * sizeof *from->map);
+}
+
+static bool same_board(const struct board *a, const struct board *b)
+{
+    return memcmp(a->picture, b->picture, a->pixels) == 0 &&
+           memcmp(a->map, b->map, a->blocks * sizeof *a->map) == 0;
+}
+
+size_t corner_of(size_t block, size_t width)
+{
+    return block / (width / 4) * 4 * width + block % (width / 4) * 4;
+}
+
+static bool same_block(const uint8_t *a, size_t block_of_a, const uint8_t *b, size_t block_of_b, size_t width)
+{
+    a += corner_of(block_of_a, width);
+    b += corner_of(block_of_b, width);
+    for (size_t row = 0; row < 4; row++)
+        if (memcmp(a + row * width, b + row * width, 4) != 0)
+            return false;
+    return true;
+}
+
+static bool same_answer(Answer a, Answer b)
+{
+    return a.number == b.number && a.place == b.place;
+}
+
+static Answer answered(unsigned number, size_t place)
+{
+    return (Answer){(uint8_t)number, place};
+}
+
+static struct loan lend_map(const struct board *board)
+{
+    return lend(MAP, board->map, board->blocks * sizeof *board->map);
+}
+
+static uint16_t *entries(const struct loan *map)
+{
+    return (uint16_t *)(void *)map->lent;
+}
+
+/* ---- fresh map and count ---- */
+
+void try_fresh_map(struct board *board)
+{
+    struct loan map = lend_map(board);
+    loan_blur(&map);
+    Answer said = seatboard_fresh_map(board->size, entries(&map), board->blocks);
+    PROMISE(said.number == map_refusal(board) && said.place == 0);
+    PROMISE(said.number != 0 || loan_defined(&map, map.length));
+    loan_clear(&map);
+    PROMISE(loan_kept(&map, said.number == 0 ? map.length : 0));
+    loan_end(&map, board->map);
+    for (size_t k = 0; said.number == 0 && k < board->blocks; k++)
+        PROMISE(board->map[k] == k);
+}
+
+void try_count(const struct board *board)
+{
+    struct loan map = lend_const(MAP, board->map, board->blocks * sizeof *board->map);
+    struct seatboard_count said = seatboard_count(board->size, entries(&map), board->blocks);
+    size_t unsettled = 0;
+    for (size_t k = 0; k < board->blocks; k++)
+        unsettled += board->map[k] != SEATBOARD_SETTLED;
+    PROMISE(said.answer.number == map_refusal(board) && said.answer.place == 0);
+    PROMISE(said.unsettled == (said.answer.number == 0 ? unsettled : 0));
+    PROMISE(loan_kept(&map, 0));
+    loan_end(&map, NULL);
+}
+
+/* ---- reading ---- */
+
+/* The call alone. To memcheck, picture and map are undefined meanwhile: it would report a jump that depends on them. */
+static Answer call_read(struct board *board, const uint8_t *bytes, size_t length)
+{
+    struct loan chunk = lend_const(CHUNK, bytes, length);
+    struct loan picture = lend(PICTURE, board->picture, board->pixels), map = lend_map(board);
+    loan_blur(&picture);
+    loan_blur(&map);
+    Answer said = seatboard_read_chunk(board->size, chunk.lent, length, picture.lent, board->pixels, entries(&map),
+                                       board->blocks);
+    loan_clear(&picture);
+    loan_clear(&map);
+    PROMISE(loan_kept(&chunk, 0));
+    PROMISE(loan_kept(&picture, said.number == 0 ? picture.length : 0));
+    PROMISE(loan_kept(&map, said.number == 0 ? map.length : 0));
+    loan_end(&chunk, NULL);
+    loan_end(&picture, board->picture);
+    loan_end(&map, board->map);
+    return said;
+}
+
+/* 1 to 4, which no opcode has a say in, or 0. */
+static unsigned chunk_refusal(const struct board *board, const uint8_t *chunk, size_t length)
+{
+    if (board_refusal(board))
+        return board_refusal(board);
+    if (length < 4)
+        return SEATBOARD_CHUNK_SHORT;
+    size_t stated = (size_t)chunk[1] << 16 | (size_t)chunk[2] << 8 | chunk[3];
+    return stated == length ? 0 : SEATBOARD_LENGTH_DIFFERS;
+}
+
+/* Can this number be given at this place, with that opcode there? */
+static bool place_promised(Answer said, const uint8_t *chunk, size_t length)
+{
+    if (said.number <= SEATBOARD_BLOCKS_REMAIN)
+        return said.place == (said.number == SEATBOARD_OK || said.number == SEATBOARD_BLOCKS_REMAIN ? length : 0);
+    if (said.number > SEATBOARD_BYTES_FOLLOW || said.place < 4 || said.place >= length)
+        return false;
+    unsigned upper = chunk[said.place] >> 4;
+    switch (said.number) {
+    case SEATBOARD_OPCODE_UNKNOWN: return upper == 0xF;
+    case SEATBOARD_NONE_BEFORE: return 2 <= upper && upper <= 5;
+    case SEATBOARD_ENTRY_EMPTY: return upper == 9 || upper == 0xB || upper == 0xD;
+    case SEATBOARD_BYTES_FOLLOW: return said.place > 4;
+    default: return upper != 0xF;
+    }
+}
+
+static Answer call_walk(struct board *board, const uint8_t *bytes, size_t length);
+
+/* A feed of the board's size and this chunk alone. */
+static size_t make_feed_of_one(const struct board *board, const uint8_t *chunk, size_t length)
+{
+    size_t at = 0, rest = length;
+    feed_of_one[at++] = (uint8_t)(board->size.width / 4);
+    feed_of_one[at++] = (uint8_t)(board->size.height / 4);
+    for (; rest > 127; rest >>= 7)
+        feed_of_one[at++] = (uint8_t)(rest | 128);
+    feed_of_one[at++] = (uint8_t)rest;
+    if (length > 0)
+        memcpy(feed_of_one + at, chunk, length);
+    return at + length;
+}
+
+/* What the map says of a chunk that was accepted: over another picture and from a fresh map, a block is settled and has
+ * the same pixels, or it shows the block of the starting picture that the map names. */
+static void promise_origins(const struct board *board, const uint8_t *chunk, size_t length)
+{
+    copy_board(&twin, &start);
+    for (size_t k = 0; k < twin.pixels; k++)
+        twin.picture[k] = (uint8_t)~start.picture[k];
+    for (size_t k = 0; k < twin.blocks; k++)
+        twin.map[k] = (uint16_t)k;
+    PROMISE(same_answer(call_read(&twin, chunk, length), answered(0, length)));
+    for (size_t k = 0; k < twin.blocks; k++) {
+        uint16_t from = twin.map[k];
+        bool settled = from == SEATBOARD_SETTLED;
+        PROMISE(settled || from < twin.blocks);
+        PROMISE(board->map[k] == (settled ? SEATBOARD_SETTLED : start.map[from]));
+        PROMISE(settled ? same_block(board->picture, k, twin.picture, k, board->size.width)
+                        : same_block(board->picture, k, start.picture, from, board->size.width));
+    }
+}
+
+void try_read(struct board *board, const uint8_t *chunk, size_t length)
+{
+    copy_board(&start, board);
+    unsigned refusal = chunk_refusal(board, chunk, length);
+    Answer said = call_read(board, chunk, length);
+    PROMISE(refusal ? said.number == refusal : said.number == 0 || said.number > SEATBOARD_LENGTH_DIFFERS);
+    PROMISE(place_promised(said, chunk, length));
+
+    lend_early = !lend_early; /* the same bytes at other addresses */
+    copy_board(&twin, &start);
+    PROMISE(same_answer(call_read(&twin, chunk, length), said) && same_board(&twin, board));
+    if (board_refusal(board))
+        return;
+    copy_board(&twin, &start);
+    size_t feed = make_feed_of_one(board, chunk, length);
+    PROMISE(same_answer(call_walk(&twin, feed_of_one, feed), answered(0, feed)) && same_board(&twin, board));
+    if (said.number == 0)
+        promise_origins(board, chunk, length);
+}
+
+/* ---- walking ---- */
+
+static Answer call_walk(struct board *board, const uint8_t *bytes, size_t length)
+{
+    struct loan feed = lend_const(CHUNK, bytes, length);
+    struct loan picture = lend(PICTURE, board->picture, board->pixels), map = lend_map(board);
+    loan_blur(&picture);
+    loan_blur(&map);
+    Answer said =
+        seatboard_walk_feed(feed.lent, length, picture.lent, board->pixels, entries(&map), board->blocks);
+    loan_clear(&picture);
+    loan_clear(&map);
+    bool nothing_read = said.number == SEATBOARD_BAD_SIZE || said.number == SEATBOARD_BAD_LENGTH;
+    PROMISE(loan_kept(&feed, 0));
+    PROMISE(loan_kept(&picture, nothing_read ? 0 : picture.length));
+    PROMISE(loan_kept(&map, nothing_read ? 0 : map.length));
+    loan_end(&feed, NULL);
+    loan_end(&picture, board->picture);
+    loan_end(&map, board->map);
+    return said;
+}
+
+unsigned number_at(const uint8_t *feed, size_t length, size_t *at, size_t *value)
+{
+    *value = 0;
+    for (size_t group = 0; group < 4; group++) {
+        if (*at + group >= length)
+            return SEATBOARD_FEED_CUT;
+        uint8_t byte = feed[*at + group];
+        *value |= (size_t)(byte & 127) << 7 * group;
+        if (byte >= 128)
+            continue;
+        *at += group + 1;
+        return (byte == 0 && group > 0) || *value > 0xFFFFFF ? SEATBOARD_BAD_VARINT : 0;
+    }
+    return SEATBOARD_BAD_VARINT;
+}
+
+/* The walk in the header's words, each chunk by seatboard_read_chunk. The buffers are the board's own: where they are
+ * touched is looked at elsewhere, and a feed may have many chunks. */
+static Answer walk_by_hand(struct board *board, const uint8_t *feed, size_t length)
+{
+    size_t at = 0, number_from = 0, sides[2] = {0, 0}, chunk = 0;
+    for (int side = 0; side < 2; side++, number_from = at) {
+        unsigned fault = number_at(feed, length, &at, &sides[side]);
+        if (fault)
+            return answered(fault, number_from);
+    }
+    board->size = (struct seatboard_size){4 * sides[0], 4 * sides[1]};
+    if (board_refusal(board))
+        return answered(board_refusal(board), 0);
+    for (; at < length; at += chunk) {
+        number_from = at;
+        unsigned fault = number_at(feed, length, &at, &chunk);
+        if (fault)
+            return answered(fault, number_from);
+        if (chunk > length - at)
+            return answered(SEATBOARD_FEED_CUT, at);
+        seatboard_read_chunk(board->size, feed + at, chunk, board->picture, board->pixels, board->map, board->blocks);
+    }
+    return answered(0, length);
+}
+
+void try_walk(struct board *board, const uint8_t *feed, size_t length)
+{
+    copy_board(&twin, board);
+    Answer by_hand = walk_by_hand(&twin, feed, length);
+    PROMISE(same_answer(call_walk(board, feed, length), by_hand) && same_board(board, &twin));
+}
+
+/* ---- writing ---- */
+
+static Answer call_write(const struct board *board, const struct wish *wish, uint8_t *output, size_t room)
+{
+    size_t shift = wish->overlap ? (size_t)(wish->picture - board->picture) : 0, both = shift + wish->pixels;
+    struct loan old = lend_const(OLD, board->picture, wish->overlap && both > board->pixels ? both : board->pixels);
+    struct loan new = lend_const(NEW, wish->picture, wish->overlap ? 0 : wish->pixels);
+    memset(output, OUTPUT_BYTE, room);
+    struct loan out = lend(OUTPUT, output, room);
+    loan_blur(&out);
+    const uint8_t *new_lent = !wish->overlap ? new.lent : shift > 0 ? old.lent + shift : old.lent;
+    Answer said =
+        seatboard_write_chunk(board->size, old.lent, board->pixels, new_lent, wish->pixels, out.lent, room);
+    size_t written = said.number == 0 ? said.place : 0;
+    PROMISE(said.number == 0 ? 4 < said.place && said.place <= room : said.place == 0);
+    PROMISE(loan_defined(&out, written));
+    loan_clear(&out);
+    PROMISE(loan_kept(&old, 0) && loan_kept(&new, 0) && loan_kept(&out, written));
+    loan_end(&old, NULL);
+    loan_end(&new, NULL);
+    loan_end(&out, output);
+    return said;
+}
+
+static unsigned write_refusal(const struct board *board, const struct wish *wish)
+{
+    if (!allowed(board->size))
+        return SEATBOARD_BAD_SIZE;
+    size_t pixels = SEATBOARD_PIXELS(board->size.width, board->size.height);
+    return board->pixels == pixels && wish->pixels == pixels ? 0 : SEATBOARD_BAD_LENGTH;
+}
+
+/* Room around the length of the chunk, and around that of the longest chunk. */
+static size_t room_of(unsigned kind, size_t chunk, size_t longest)
+{
+    switch (kind % 8) {
+    case 0: return chunk;
+    case 1: return chunk - 1;
+    case 2: return chunk + 1;
+    case 3: return longest;
+    case 4: return longest - 1;
+    case 5: return longest + kind;
+    case 6: return 0;
+    default: return kind;
+    }
+}
+
+/* A written chunk is read with 0 over the old picture, gives the new one, settles what differs and nothing else. */
+static void read_back(struct board *board, const struct wish *wish, const uint8_t *chunk, size_t length)
+{
+    copy_board(&start, board);
+    memcpy(wanted, wish->picture, wish->pixels); /* an overlapping one changes with the board */
+    PROMISE(chunk[0] == 0xE1);
+    PROMISE(same_answer(call_read(board, chunk, length), answered(0, length)));
+    PROMISE(memcmp(board->picture, wanted, wish->pixels) == 0);
+    for (size_t k = 0; k < board->blocks; k++) {
+        bool kept = same_block(start.picture, k, wanted, k, board->size.width);
+        PROMISE(board->map[k] == (kept ? start.map[k] : SEATBOARD_SETTLED));
+    }
+}
+
+void try_write(struct board *board, const struct wish *wish)
+{
+    unsigned refusal = write_refusal(board, wish);
+    if (refusal) {
+        PROMISE(call_write(board, wish, outputs[0], wish->room).number == refusal);
+        return;
+    }
+    size_t longest = SEATBOARD_LONGEST_CHUNK(board->size.width, board->size.height);
+    Answer said = call_write(board, wish, outputs[0], longest);
+    PROMISE(said.number == 0);
+
+    size_t room = room_of(wish->room, said.place, longest);
+    lend_early = !lend_early;
+    Answer again = call_write(board, wish, outputs[1], room);
+    PROMISE(room < said.place ? again.number == SEATBOARD_OUTPUT_SHORT : same_answer(again, said));
+    PROMISE(again.number != 0 || memcmp(outputs[0], outputs[1], said.place) == 0);
+    if (board_refusal(board) == 0)
+        read_back(board, wish, outputs[0], said.place);
+}
+
+/* ---- lengths that three bytes cannot state ---- */
+
+void try_longest_chunks(void)
+{
+    const size_t bound = (size_t)1 << 24, room = bound + 4096;
+    uint8_t *pages = mmap(NULL, room, PROT_READ | PROT_WRITE, MAP_PRIVATE | MAP_ANONYMOUS, -1, 0), pixels[16] = {0};
+    uint16_t map[1] = {0};
+    const struct seatboard_size size = {4, 4};
+    PROMISE(pages != MAP_FAILED);
+    for (size_t length = bound - 1; length < bound + 8; length++) {
+        uint8_t *chunk = pages + room - length, *feed = chunk - 6;
+        const uint8_t number[] = {1, 1, 0xFF, 0xFF, 0xFF, 7}; /* 4 by 4 pixels, bound - 1 bytes */
+        const uint8_t head[] = {0xE1, (uint8_t)(length >> 16), (uint8_t)(length >> 8), (uint8_t)length, 0};
+        memcpy(feed, number, sizeof number);
+        memcpy(chunk, head, sizeof head);
+        Answer said = seatboard_read_chunk(size, chunk, length, pixels, 16, map, 1);
+        PROMISE(same_answer(said, length < bound ? answered(SEATBOARD_BYTES_FOLLOW, 5)
+                                                 : answered(SEATBOARD_LENGTH_DIFFERS, 0)));
+        said = seatboard_walk_feed(feed, bound + 5, pixels, 16, map, 1);
+        PROMISE(same_answer(said, answered(0, bound + 5)));
+    }
+    munmap(pages, room);
+}

@@ -1,0 +1,61 @@
+/*
+ * Each call of the library, with all that seatboard.h promises of it looked at afterwards. A promise that does not hold
+ * is named, and the process aborts.
+ */
+#ifndef PROMISES_H
+#define PROMISES_H
+
+#include <stdbool.h>
+#include <stddef.h>
+#include <stdint.h>
+
+#include "seatboard.h"
+
+/* The most elements of a picture or map, of lengths not allowed too; and what allowed ones never pass. */
+#define MOST ((size_t)128 * 1024)
+#define MAX_PIXELS SEATBOARD_PIXELS(SEATBOARD_MAX_WIDTH, SEATBOARD_MAX_HEIGHT)
+#define MAX_BLOCKS SEATBOARD_BLOCKS(SEATBOARD_MAX_WIDTH, SEATBOARD_MAX_HEIGHT)
+
+/* What a call is given. Size and lengths need not be allowed, nor fit each other. */
+struct board {
+    struct seatboard_size size;
+    size_t pixels, blocks; /* the lengths that are lent */
+    uint8_t picture[MOST];
+    uint16_t map[MOST];
+};
+
+void copy_board(struct board *to, const struct board *from);
+
+bool allowed(struct seatboard_size size);
+
+/* Where a block's first pixel stands in a picture of this width. */
+size_t corner_of(size_t block, size_t width);
+
+/* 1, 2 or 0, as a call looks for them first: by the size and the map's length, and by the picture's too. */
+unsigned map_refusal(const struct board *board);
+unsigned board_refusal(const struct board *board);
+
+/* A number of a feed at *at. Answers 0, and then *at is behind the number, or 12 or 13. */
+unsigned number_at(const uint8_t *feed, size_t length, size_t *at, size_t *value);
+
+void try_fresh_map(struct board *board);
+void try_count(const struct board *board);
+void try_read(struct board *board, const uint8_t *chunk, size_t length);
+void try_walk(struct board *board, const uint8_t *feed, size_t length);
+
+/* What is to be written over the board's picture. Where the two overlap, the new picture starts in the board's own
+ * array. The room of the output follows from its kind and from the chunk's length: see room_of. */
+struct wish {
+    const uint8_t *picture;
+    size_t pixels;
+    bool overlap;
+    unsigned room;
+};
+
+/* Leaves the new picture on the board. */
+void try_write(struct board *board, const struct wish *wish);
+
+/* Chunks of 2^24 - 1 bytes and of a few more, read and walked. */
+void try_longest_chunks(void);
+
+#endif

@@ -1,0 +1,153 @@
+/*
+ * The seeds, written as attack.c reads them: width, height, picture, then calls. The calls, in hex: 00 fresh map, 01
+ * count, 02 numbers, 03 walk (23 repaired), 04 write (24 overlapping), 05 read (25 repaired, 65 closed too); 08 more
+ * where buffers begin at a page's start, 10 more where size and lengths are odd. A chunk or feed stands behind its
+ * length.
+ */
+#include <string.h>
+
+#include "inputs.h"
+
+#define SIXTEEN "000102030405060708090A0B0C0D0E0F"
+#define FILLED(first) first "FF 0F " SIXTEEN /* 256 blocks of 16 colours */
+
+static const char *const seeds[] = {
+    /* paper 01's examples 2 to 13 and 15 */
+    "01 00 00  05 0600 E10000066105  01",
+    "00 00 00  05 0500 E100000520",
+    "00 00 00  0D 0500 E100000501",
+    "00 00 00  05 0600 E10000069000",
+    "00 00 01  0D 0900 E10000098003070008",
+    "00 00 00  05 0600 E100000600AA",
+    "00 00 00  05 0400 E1000004",
+    "00 00 00  0D 0500 E100000510",
+    "00 00 00  05 0500 E1000005F0",
+    "01 00 03  00  05 0600 E10000060020  01",
+    "00 00 00  05 0000  05 0600 E10000076005  0D 0000",
+    "00 00 00  04 03 01 0000 00 00 05  04 00 00",
+    "03 00 00  05 0900 E10000096001600240  01",
+    /* every opcode, on 80 blocks; copies and a run across lines, early */
+    "13 03 07  00  65 6C00 E1000000 00 1001 6101 700102 20 3101 40 5000 81 0102 FF00 0FF0 90 00 1234"
+    " A0 01020304 1B1B1B1B B0 00 E4E4E4E4 C0 0102030405060708 0123456789AB D1 00 0123456789AB BA9876543210"
+    " E0" SIXTEEN "  01",
+    "02 02 03  00  6D 0B00 E1000000 60052023412261",
+    /* writes: blocks of each count of colours, each kind of room */
+    "07 03 05  04 00 06 0000 13 00 09 0300 00 01 0102 0500 00 02 010203 0700 00 04 0102030405"
+    " 0900 00 08 010203040506070809 0B00 01 0F" SIXTEEN "  04 01 01 0400 02 01 0708  0C 02 01 0200 00 03 09080706",
+    "03 02 11  04 03 01 0100 00 01 0809  0C 04 01 0200 00 01 0809  04 05 01 0300 00 01 0809"
+    "  04 06 01 0300 00 01 0709  04 07 01 0400 00 0F" SIXTEEN,
+    /* one colour all over, then nothing changed: runs of 256 */
+    "4F 31 00  04 00 10 0000 FF 00 05 0001 FF 00 05 0002 FF 00 05 0003 FF 00 05  04 01 00  01",
+    /* the longest chunk that is written, 68,004 bytes */
+    "4F 31 00  04 00 10" FILLED("0000") FILLED("0001") FILLED("0002") FILLED("0003") FILLED("0004") FILLED("0005")
+    FILLED("0006") FILLED("0007") FILLED("0008") FILLED("0009") FILLED("000A") FILLED("000B") FILLED("000C")
+    FILLED("000D") FILLED("000E") FILLED("000F") "  01",
+    /* old and new picture the same, and shifted by 4 and by 1 */
+    "07 03 05  24 00 00  24 01 04  2C 03 01",
+    /* feeds: the listing's (examples/listing.feed); repaired; numbers badly formed and cut off; chunks cut off; another
+     * width and the same lengths; sizes refused */
+    "01 00 00  03 1500 020106E1000006002004E100000406E10000066105  01",
+    "03 01 09  2B 1500 06 E10000006707 00 05 E100000060 06 E10000002061",
+    "00 00 00  03 0200 8000  03 0500 0101808080  0B 0600 010180808080  03 0100 01  03 0600 010180808008",
+    "00 00 00  03 0600 0101FFFFFF07  03 0600 010180808004  03 0300 010105  0B 0500 010105E100  03 0000  0B 0000",
+    "01 00 01  0B 0900 0102 06 E10000066105  03 0700 010100FFFFFF08  03 0200 5101",
+    /* any numbers in the map, moved and counted */
+    "03 02 01  02 0600 FFFF0000FEFF  01  65 0800 E100000000214041  09  02 0100 FF  01",
+    /* by each call: sides whose product overflows, with lengths of that product; too long and too short by one; empty;
+     * sides that 32 bits would take for allowed ones, and other great ones */
+    "00 00 00  10 13 13 3F  11 14 14 3F  15 14 14 3F 0600 E10000066005  14 15 14 3F 00 01  1D 0F 0F 3F 0000"
+    "  1C 17 14 3F 00 07",
+    "07 07 00  18 1B 1B 10  19 1B 1B 18  1D 1B 1B 02 0600 E10000066005  1D 1B 1B 03 0000  1C 1B 1B 00 00 02"
+    "  14 1B 1B 02 03 00  33 1B 1B 12 0700 06E10000066005",
+    "07 07 00  18 1B 1B 09  19 1B 1B 09  1D 1B 1B 09 0000  15 1B 1B 09 0000  14 1B 1B 09 06 01  1C 1B 1B 09 06 01"
+    "  13 1B 1B 09 0000",
+    "07 07 00  10 10 10 00  11 10 1B 00  15 10 10 00 0600 E10000066005  14 1B 10 00 00 00  1C 1A 18 00 00 00"
+    "  15 08 1B 3F 0000",
+};
+
+#define SEEDS (sizeof seeds / sizeof *seeds)
+
+static size_t from_hex(const char *text, uint8_t *to)
+{
+    static const char digits[] = "0123456789ABCDEF";
+    size_t count = 0;
+    for (; *text; text++) {
+        const char *digit = strchr(digits, *text);
+        if (!digit)
+            continue;
+        unsigned half = (unsigned)(digit - digits);
+        to[count / 2] = (uint8_t)(count % 2 ? to[count / 2] | half : half << 4);
+        count++;
+    }
+    return count / 2;
+}
+
+/* One opcode for one block: its entry's number or colours, and its flags. */
+static uint8_t *opcode(uint8_t *to, unsigned upper, unsigned bytes, unsigned from)
+{
+    *to++ = (uint8_t)(upper << 4);
+    for (unsigned k = 0; k < bytes; k++)
+        *to++ = (uint8_t)(from + 37 * k);
+    return to;
+}
+
+/* On the largest board: 260 entries stored in each table, so that the first four are lost, and some of them named. */
+static size_t full_tables(uint8_t *to)
+{
+    uint8_t *chunk = to + from_hex("4F 31 00  65 0000", to), *at = chunk + from_hex("E1000000", chunk);
+    for (unsigned table = 0; table < 3; table++) {
+        unsigned colours = 2u << table, flags = 2 + 2 * table;
+        for (unsigned entry = 0; entry < 260; entry++)
+            at = opcode(at, 8 + 2 * table, colours + flags, entry);
+        for (unsigned entry = 0; entry < 256; entry += 3)
+            at = opcode(at, 9 + 2 * table, 1 + flags, entry);
+    }
+    size_t length = (size_t)(at - chunk);
+    chunk[-2] = (uint8_t)length;
+    chunk[-1] = (uint8_t)(length >> 8);
+    return (size_t)(at - to);
+}
+
+size_t seed(size_t number, uint8_t input[LONGEST_INPUT])
+{
+    return number < SEEDS ? from_hex(seeds[number], input) : number == SEEDS ? full_tables(input) : 0;
+}
+
+/* ---- inputs from a fixed generator ---- */
+
+/* A step of a linear congruential generator; the upper bits are the better ones. */
+static unsigned below(uint64_t *state, unsigned bound)
+{
+    *state = *state * 6364136223846793005u + 1442695040888963407u;
+    return (unsigned)((*state >> 33) % bound);
+}
+
+/* Sets a byte, or moves what stands from there on by some bytes, forth or back. */
+static size_t edited(uint64_t *state, uint8_t *input, size_t length)
+{
+    size_t at = below(state, (unsigned)length), by = 1 + below(state, 8);
+    unsigned kind = below(state, 8);
+    if (kind == 0 && length + by <= LONGEST_INPUT) {
+        memmove(input + at + by, input + at, length - at);
+        return length + by;
+    }
+    if (kind == 1 && at + by < length) {
+        memmove(input + at, input + at + by, length - at - by);
+        return length - by;
+    }
+    input[at] = (uint8_t)(kind < 5 ? below(state, 256) : input[at] ^ 1u << below(state, 8));
+    return length;
+}
+
+/* A seed with some edits, and in one case of four any bytes behind it; in one of eight any bytes on a small board. */
+size_t made_input(uint64_t number, uint8_t input[LONGEST_INPUT])
+{
+    uint64_t state = number;
+    unsigned kind = (below(&state, 8), below(&state, 8)); /* the first step still shows the number */
+    size_t length = kind == 0 ? from_hex("02 02 00 65 FF00 E1000000", input) : seed(below(&state, SEEDS + 1), input);
+    for (unsigned edits = below(&state, 6); kind > 0 && edits > 0; edits--)
+        length = edited(&state, input, length);
+    for (unsigned more = kind < 3 ? below(&state, 300) : 0; more > 0 && length < LONGEST_INPUT; more--)
+        input[length++] = (uint8_t)below(&state, 256);
+    return length;
+}

@@ -1,0 +1,159 @@
+/*
+ * How much stack each function of the library takes. Linked with `--wrap` for each of the five, every call of theirs is
+ * made on a painted stack of its own; at the end it is said how much paint the worst call of each has touched.
+ */
+#include <stdio.h>
+#include <stdlib.h>
+#include <string.h>
+#include <sys/mman.h>
+#include <ucontext.h>
+
+#include "seatboard.h"
+
+#define STACK ((size_t)64 * 1024)
+#define GUARD ((size_t)4096) /* below the stack, not to be touched */
+#define PAINT 0xB7
+
+typedef struct seatboard_answer Answer;
+typedef struct seatboard_size Size;
+
+static uint8_t *stack;
+static ucontext_t here, there;
+
+static struct taken {
+    const char *name;
+    size_t bytes;
+} empty = {"an empty call", 0}, fresh_map = {"seatboard_fresh_map", 0}, count = {"seatboard_count", 0},
+  read_chunk = {"seatboard_read_chunk", 0}, write_chunk = {"seatboard_write_chunk", 0},
+  walk_feed = {"seatboard_walk_feed", 0};
+
+/* What the call under way was lent, and what came back. */
+static struct lent {
+    Size size;
+    const uint8_t *in, *more;
+    size_t in_length, more_length;
+    uint8_t *out;
+    size_t out_length;
+    uint16_t *map;
+    const uint16_t *counted;
+    size_t map_length;
+    Answer answer;
+    struct seatboard_count count;
+} lent;
+
+static void on_paint(struct taken *taken, void (*call)(void))
+{
+    memset(stack, PAINT, STACK);
+    getcontext(&there);
+    there.uc_stack.ss_sp = stack;
+    there.uc_stack.ss_size = STACK;
+    there.uc_link = &here;
+    makecontext(&there, call, 0);
+    swapcontext(&here, &there);
+    size_t untouched = 0;
+    while (untouched < STACK && stack[untouched] == PAINT)
+        untouched++;
+    if (STACK - untouched > taken->bytes)
+        taken->bytes = STACK - untouched;
+}
+
+static void nothing(void)
+{
+}
+
+static void report(void)
+{
+    static const struct taken *const all[] = {&fresh_map, &count, &read_chunk, &write_chunk, &walk_feed};
+    for (size_t k = 0; k < sizeof all / sizeof *all; k++)
+        if (all[k]->bytes > 0)
+            printf("%s: %zu bytes of stack\n", all[k]->name, all[k]->bytes - empty.bytes);
+}
+
+__attribute__((constructor)) static void begin(void)
+{
+    stack = mmap(NULL, GUARD + STACK, PROT_READ | PROT_WRITE, MAP_PRIVATE | MAP_ANONYMOUS, -1, 0);
+    if (stack == MAP_FAILED || mprotect(stack, GUARD, PROT_NONE) != 0)
+        abort();
+    stack += GUARD;
+    on_paint(&empty, nothing);
+    atexit(report);
+}
+
+/* ---- the five functions: the real one, its call, and what stands in for it ---- */
+
+Answer __real_seatboard_fresh_map(Size, uint16_t *, size_t);
+struct seatboard_count __real_seatboard_count(Size, const uint16_t *, size_t);
+Answer __real_seatboard_read_chunk(Size, const uint8_t *, size_t, uint8_t *, size_t, uint16_t *, size_t);
+Answer __real_seatboard_write_chunk(Size, const uint8_t *, size_t, const uint8_t *, size_t, uint8_t *, size_t);
+Answer __real_seatboard_walk_feed(const uint8_t *, size_t, uint8_t *, size_t, uint16_t *, size_t);
+
+static void call_fresh_map(void)
+{
+    lent.answer = __real_seatboard_fresh_map(lent.size, lent.map, lent.map_length);
+}
+
+static void call_count(void)
+{
+    lent.count = __real_seatboard_count(lent.size, lent.counted, lent.map_length);
+}
+
+static void call_read_chunk(void)
+{
+    const struct lent *l = &lent;
+    lent.answer =
+        __real_seatboard_read_chunk(l->size, l->in, l->in_length, l->out, l->out_length, l->map, l->map_length);
+}
+
+static void call_write_chunk(void)
+{
+    const struct lent *l = &lent;
+    lent.answer =
+        __real_seatboard_write_chunk(l->size, l->in, l->in_length, l->more, l->more_length, l->out, l->out_length);
+}
+
+static void call_walk_feed(void)
+{
+    const struct lent *l = &lent;
+    lent.answer = __real_seatboard_walk_feed(l->in, l->in_length, l->out, l->out_length, l->map, l->map_length);
+}
+
+Answer __wrap_seatboard_fresh_map(Size size, uint16_t *map, size_t map_length)
+{
+    lent = (struct lent){.size = size, .map = map, .map_length = map_length};
+    on_paint(&fresh_map, call_fresh_map);
+    return lent.answer;
+}
+
+struct seatboard_count __wrap_seatboard_count(Size size, const uint16_t *map, size_t map_length)
+{
+    lent = (struct lent){.size = size, .counted = map, .map_length = map_length};
+    on_paint(&count, call_count);
+    return lent.count;
+}
+
+Answer __wrap_seatboard_read_chunk(Size size, const uint8_t *chunk, size_t length, uint8_t *picture, size_t pixels,
+                                   uint16_t *map, size_t blocks)
+{
+    lent = (struct lent){.size = size, .in = chunk, .in_length = length, .out = picture, .out_length = pixels,
+                         .map = map, .map_length = blocks};
+    on_paint(&read_chunk, call_read_chunk);
+    return lent.answer;
+}
+
+Answer __wrap_seatboard_write_chunk(Size size, const uint8_t *old, size_t old_length, const uint8_t *new,
+                                    size_t new_length, uint8_t *output, size_t room)
+{
+    lent = (struct lent){.size = size, .in = old, .in_length = old_length, .more = new, .more_length = new_length,
+                         .out = output, .out_length = room};
+    on_paint(&write_chunk, call_write_chunk);
+    return lent.answer;
+}
+
+Answer __wrap_seatboard_walk_feed(const uint8_t *feed, size_t length, uint8_t *picture, size_t pixels, uint16_t *map,
+                                  size_t blocks)
+{
+    lent = (struct lent){.in = feed, .in_length = length, .out = picture, .out_length = pixels,
+                         .map = map, .map_length = blocks};
+    on_paint(&walk_feed, call_walk_feed);
+    return lent.answer;
+}
