@@ -1,28 +1,27 @@
 //! Compares the library under test with an independent second reader and writer of SMC chunks and
-//! a second walk of the house feed, and the board program with a second listing.
+//! a second walk of the house feed, and the board program with a second listing; and tries demand 3
+//! on two boards.
 //!
-//! The library is libseatboard.a, called by its C functions (library.rs). The second reader
-//! (second.rs), writer (second_writer.rs), walk (second_walk.rs) and listing (second_listing.rs)
-//! were written from the papers 01 and 003 alone. generate.rs makes boards and chunks, feeds.rs
-//! feeds of them, pictures.rs pairs of pictures to write, right and wrong; compare.rs gives each to
-//! both and compares the answer and all that was lent; tally.rs, feed_tally.rs and write_tally.rs
-//! count what they had in them; examples.rs, feed_examples.rs and write_examples.rs try both on
-//! paper 01's examples and on others made by hand. Each chunk written is read back by both readers.
-//! program.rs runs the board program, on the cases of program_cases.rs and on random feeds
-//! (listings.rs).
+//! The library is called through the package `seatboard`; the second ones are the package `second`.
+//! generate.rs makes boards and chunks, feeds.rs feeds of them, pictures.rs pairs of pictures to
+//! write, right and wrong; compare.rs gives each to both and compares the answer and all that was
+//! lent; tally.rs, feed_tally.rs and write_tally.rs count what they had in them; examples.rs,
+//! feed_examples.rs and write_examples.rs try both on paper 01's examples and on others made by
+//! hand. Each chunk written is read back by both readers. program.rs runs the board program, on the
+//! cases of program_cases.rs and on random feeds (listings.rs). sequences.rs makes sequences of
+//! calls, and two_boards.rs runs them.
 //!
-//! From the repository's root, with the library in target/staticlib or in $SEATBOARD_LIB and the
-//! board program as target/bin/board or $SEATBOARD_BOARD:
+//! From the repository's root, with the library in target/lib or in $SEATBOARD_LIB and the board
+//! program as target/bin/board or $SEATBOARD_BOARD:
 //!
 //! ```text
-//! cargo run --quiet --release --locked --offline --manifest-path tests/compare/Cargo.toml \
-//!     --target-dir target/compare -- [--seed N] [--chunks N] [--feeds N]
-//!     [--case N | --feed N | --write N | --listing N]
+//! cargo run --quiet --release --locked --offline --package compare -- [--seed N] [--chunks N]
+//!     [--feeds N] [--case N | --feed N | --write N | --listing N | --sequence N]
 //! ```
 //!
-//! `--case N`, `--feed N`, `--write N` and `--listing N` replay one chunk, feed, write or listing
-//! of that seed and print all of it. Each check prints `ok NAME` or `FAILED NAME: why`; the last
-//! line is `N passed, M failed`.
+//! `--case N`, `--feed N`, `--write N`, `--listing N` and `--sequence N` replay one chunk, feed,
+//! write, listing or sequence of that seed and print all of it. Each check prints `ok NAME` or
+//! `FAILED NAME: why`; the last line is `N passed, M failed`.
 
 mod compare;
 mod examples;
