@@ -40,8 +40,8 @@ pub fn dense(title: &str, aim: f64) -> Contest {
 fn contest(title: &str, reading: Reading, aim: f64, strict: bool) -> Contest {
     let reading = Rc::new(reading);
     let mut contestants: Vec<Box<dyn Contestant>> = vec![
-        Box::new(Ours(Lent::new(&reading))),
-        Box::new(Second(Lent::new(&reading))),
+        Box::new(Reader::new("ours", ours, &reading)),
+        Box::new(Reader::new("second", second, &reading)),
     ];
     contestants.extend(beside::reader(&reading));
     Contest {
@@ -55,21 +55,39 @@ fn contest(title: &str, reading: Reading, aim: f64, strict: bool) -> Contest {
     }
 }
 
-struct Lent {
+/// A chunk, a picture and a map, at the one size.
+type Read = fn(&[u8], &mut [u8], &mut [u16]);
+
+struct Reader {
+    name: &'static str,
+    read: Read,
     reading: Rc<Reading>,
     picture: Vec<u8>,
     map: Vec<u16>,
 }
 
-impl Lent {
-    fn new(reading: &Rc<Reading>) -> Self {
+impl Reader {
+    fn new(name: &'static str, read: Read, reading: &Rc<Reading>) -> Self {
         let mut map = vec![0; SIZE.blocks()];
         seatboard::fresh_map(SIZE, &mut map).expect("the map fits");
-        Lent {
+        Reader {
+            name,
+            read,
             reading: Rc::clone(reading),
             picture: reading.start.clone(),
             map,
         }
+    }
+}
+
+impl Contestant for Reader {
+    fn name(&self) -> &'static str {
+        self.name
+    }
+
+    fn work(&mut self, piece: usize) {
+        let chunk = &self.reading.chunks[piece];
+        (self.read)(chunk, &mut self.picture, &mut self.map);
     }
 
     fn made(&self, piece: usize) -> Made {
@@ -80,46 +98,10 @@ impl Lent {
     }
 }
 
-struct Ours(Lent);
-
-impl Contestant for Ours {
-    fn name(&self) -> &'static str {
-        "ours"
-    }
-
-    fn work(&mut self, piece: usize) {
-        let Lent {
-            reading,
-            picture,
-            map,
-        } = &mut self.0;
-        seatboard::read_chunk(SIZE, &reading.chunks[piece], picture, map)
-            .expect("the chunk is accepted");
-    }
-
-    fn made(&self, piece: usize) -> Made {
-        self.0.made(piece)
-    }
+fn ours(chunk: &[u8], picture: &mut [u8], map: &mut [u16]) {
+    seatboard::read_chunk(SIZE, chunk, picture, map).expect("the chunk is accepted");
 }
 
-struct Second(Lent);
-
-impl Contestant for Second {
-    fn name(&self) -> &'static str {
-        "second"
-    }
-
-    fn work(&mut self, piece: usize) {
-        let Lent {
-            reading,
-            picture,
-            map,
-        } = &mut self.0;
-        reader::read_chunk(WIDTH_AND_HEIGHT, &reading.chunks[piece], picture, map)
-            .expect("the chunk is accepted");
-    }
-
-    fn made(&self, piece: usize) -> Made {
-        self.0.made(piece)
-    }
+fn second(chunk: &[u8], picture: &mut [u8], map: &mut [u16]) {
+    reader::read_chunk(WIDTH_AND_HEIGHT, chunk, picture, map).expect("the chunk is accepted");
 }

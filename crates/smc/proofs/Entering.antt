@@ -14,7 +14,7 @@ use lib.Dec.{eqb}
 use borrow.Author.Tests.{eqb-true}
 use Rattle.spec.specs.Basics.{part}
 use Rattle.spec.specs.Flags.{flags, chosen}
-use Rattle.spec.specs.Chunks.{kindOf, store, named, upperAt}
+use Rattle.spec.specs.Chunks.{kindOf, store, named, capacity, upperAt}
 use Rattle.spec.proofs.Cells.{entry-room}
 use Rattle.spec.proofs.Parts.{length-part, part-sets}
 use Rattle.smc.specs.declared.heads.Lead.{Lead}
@@ -59,13 +59,13 @@ module _ (x : ℕ) (some : x ≢ 0) (most : x < 4) (u : ℕ) (stores : kindOf u 
 
   module _ {l : List ℕ} {next : ℕ} {l′ : List ℕ} {e rest next′ : ℕ} (en : Entered (colours x) l next s (lead .body) (lead .upper) u l′ e rest next′) where
     -- what has just been stored is there to be read
-    pub entry-stored : length l ≡ size x → next < 256 → eqb (lead .upper) u ≡ true
+    pub entry-stored : length l ≡ size x → next < capacity → eqb (lead .upper) u ≡ true
         → (lead .body + colours x ≤ length s) × (part s (lead .body) (colours x) ≡ part l′ e (colours x))
     entry-stored room byte t =
         let q = eqb-true (lead .upper) u t in
         let w = entry-whole q in
         let f = length-part s (lead .body) (colours x) w in
-        (w, sym (rw (en .stored q .0, en .stored q .1) (part-sets l (colours x * next) (part s (lead .body) (colours x)) (colours x) f (omega (arith, entry-room (colours x) next 256 byte)))))
+        (w, sym (rw (en .stored q .0, en .stored q .1) (part-sets l (colours x * next) (part s (lead .body) (colours x)) (colours x) f (omega (arith, entry-room (colours x) next capacity byte)))))
 
     pub entry-room-left : length l ≡ size x → e + colours x ≤ length l′
     entry-room-left room = rw (entered-length en, room) (en .room)
@@ -77,7 +77,7 @@ module _ (x : ℕ) (some : x ≢ 0) (most : x < 4) (u : ℕ) (stores : kindOf u 
         by (yes q) = rw (en .stored q .2) (rw (stores, one-mul (lead .count)) at (facts-of g el q .inside))
         by (no q) = rw (en .named q .2) (rw (names, one-mul (lead .count)) at (facts-other g el q h .inside))
 
-    pub entry-tabled : 0 < c → length l ≡ size x → next < 256 → (pic m pic′ m′ : List ℕ)
+    pub entry-tabled : 0 < c → length l ≡ size x → next < capacity → (pic m pic′ m′ : List ℕ)
         → pic′ ≡ puts c k (λ i. chosen (flags x (part s (rest + 2 * x * i) (2 * x))) (part l′ e (colours x))) (lead .count) pic
         → m′ ≡ marks k (lead .count) m
         → Tabled x c r s at k pic m l next pic′ m′ l′ (rest + 2 * x * lead .count) (k + lead .count) next′
@@ -87,7 +87,7 @@ module _ (x : ℕ) (some : x ≢ 0) (most : x < 4) (u : ℕ) (stores : kindOf u 
         by (yes q) =
             let t = en .stored q in
             tabled-store x some most c r wide s at k pic m l next (g .within) (lead .count) (el .count) (lead .body) (el .body) rest pic′ m′ em
-            (kind-of g el q ∙ stores) (t .2) (entry-whole q) (omega (arith, entry-room (colours x) next 256 byte)) l′ (t .0) (rw (← t .1) ep) next′ (t .3)
+            (kind-of g el q ∙ stores) (t .2) (entry-whole q) (omega (arith, entry-room (colours x) next capacity byte)) l′ (t .0) (rw (← t .1) ep) next′ (t .3)
         by (no q) =
             let t = en .named q in
             rw (t .0, t .3)
