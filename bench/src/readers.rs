@@ -9,7 +9,7 @@ use crate::contest::{Contest, Contestant, Made};
 use crate::dense;
 use crate::hall::{SIZE, WIDTH_AND_HEIGHT};
 use crate::random::Random;
-use crate::story::{packed, Story, PAIRS};
+use crate::story::{self, packed, Story, PAIRS};
 use crate::SEED;
 
 pub struct Reading {
@@ -44,15 +44,7 @@ fn contest(title: &str, reading: Reading, aim: f64, strict: bool) -> Contest {
         Box::new(Reader::new("second", second, &reading)),
     ];
     contestants.extend(beside::reader(&reading));
-    Contest {
-        title: title.to_string(),
-        pieces: PAIRS,
-        chunks: PAIRS,
-        bytes: PAIRS * SIZE.pixels(),
-        aim: Some(aim),
-        strict,
-        contestants,
-    }
+    story::contest(title, aim, strict, contestants)
 }
 
 /// A chunk, a picture and a map, at the one size.

@@ -1,6 +1,7 @@
 //! Pictures one after the other, so many blocks changed from each to the next: out and back again,
 //! so that the last pair leads to where the first one started.
 
+use crate::contest::{Contest, Contestant};
 use crate::hall::{Hall, SIZE};
 use crate::random::Random;
 use crate::SEED;
@@ -48,4 +49,22 @@ pub fn packed(old: &[u8], new: &[u8]) -> Vec<u8> {
 pub fn drawn_whole(picture: &[u8]) -> Vec<u8> {
     let other: Vec<u8> = picture.iter().map(|pixel| !pixel).collect();
     packed(&other, picture)
+}
+
+/// A contest over as many chunks as there are pairs, a piece of work each.
+pub fn contest(
+    title: &str,
+    aim: f64,
+    strict: bool,
+    contestants: Vec<Box<dyn Contestant>>,
+) -> Contest {
+    Contest {
+        title: title.to_string(),
+        pieces: PAIRS,
+        chunks: PAIRS,
+        bytes: PAIRS * SIZE.pixels(),
+        aim: Some(aim),
+        strict,
+        contestants,
+    }
 }

@@ -8,7 +8,7 @@ use second::writer;
 use crate::beside;
 use crate::contest::{Contest, Contestant, Made};
 use crate::hall::{SIZE, WIDTH_AND_HEIGHT};
-use crate::story::{Story, PAIRS};
+use crate::story::{self, Story, PAIRS};
 
 pub fn contest(title: &str, changed: usize, aim: f64) -> Contest {
     let story = Rc::new(Story::new(changed));
@@ -20,15 +20,7 @@ pub fn contest(title: &str, changed: usize, aim: f64) -> Contest {
         Box::new(Second::new(&story)),
     ];
     contestants.extend(beside::writer(&story));
-    Contest {
-        title: title.to_string(),
-        pieces: PAIRS,
-        chunks: PAIRS,
-        bytes: PAIRS * SIZE.pixels(),
-        aim: Some(aim),
-        strict: false,
-        contestants,
-    }
+    story::contest(title, aim, false, contestants)
 }
 
 /// Asked of the second writer, so that who counts the calls of ours finds those of the work alone.

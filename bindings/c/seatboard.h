@@ -5,7 +5,7 @@
  * What the library promises
  *   Whatever bytes and lengths it is lent, every call comes back with one of the numbers below. It reads and writes
  *   nothing but what it is lent, keeps no pointer, allocates nothing, and has no state of its own: threads may call it
- *   at once, each with its own buffers. It needs at most 16 KiB of stack.
+ *   at once, each with its own buffers. It calls nothing but memcpy and memset, and needs at most 16 KiB of stack.
  *   A refused call leaves all that it was lent as it was; the one exception stands at seatboard_walk_feed.
  *
  * What the caller owes (nothing checks it)

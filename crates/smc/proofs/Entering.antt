@@ -38,24 +38,39 @@ entered-length {w} {l} {next} {s} {q} {u} {v} {l′} en = by (ℕ-discrete u v)
     by (no h) = ap length (en .named h .0)
 
 -- u is the opcode that stores entries of the table of x bits, and the next one names them
-module _ (x : ℕ) (some : x ≢ 0) (most : x < 4) (u : ℕ) (stores : kindOf u ≡ store x) (names : kindOf (suc u) ≡ named x)
-    (c r : ℕ) {s : List ℕ} {at k : ℕ} {lead : Lead} (g : Room (c * r) s at k) (el : Leads s at lead) (h : (u ≤ upperAt s at) × (upperAt s at < u + 2)) where
+pub record Uses (x u : ℕ) : Type 0 where
+  pub some : x ≢ 0
+  pub most : x < 4
+  pub stores : kindOf u ≡ store x
+  pub names : kindOf (suc u) ≡ named x
+
+pub pairs : Uses 1 8
+pairs = record { some = λ e. omega arith; most = omega arith; stores = refl; names = refl }
+
+pub quads : Uses 2 10
+quads = record { some = λ e. omega arith; most = omega arith; stores = refl; names = refl }
+
+pub octets : Uses 3 12
+octets = record { some = λ e. omega arith; most = omega arith; stores = refl; names = refl }
+
+module _ {x u : ℕ} (table : Uses x u) (c r : ℕ) {s : List ℕ} {at k : ℕ} {lead : Lead} (g : Room (c * r) s at k) (el : Leads s at lead)
+    (h : (u ≤ upperAt s at) × (upperAt s at < u + 2)) where
   pub entry-whole : lead .upper ≡ u → lead .body + colours x ≤ length s
-  entry-whole e = omega (arith, rw stores at (facts-of g el e .inside))
+  entry-whole e = omega (arith, rw (table .stores) at (facts-of g el e .inside))
 
   pub entry-first : lead .body < length s
   entry-first = by (ℕ-discrete (lead .upper) u)
     where
       by : Dec (lead .upper ≡ u) → lead .body < length s
       by (yes q) = omega (arith, entry-whole q, pow-pos x)
-      by (no q) = omega (arith, rw names at (facts-other g el q h .inside))
+      by (no q) = omega (arith, rw (table .names) at (facts-other g el q h .inside))
 
   pub entry-within : k + lead .count ≤ c * r
   entry-within = by (ℕ-discrete (lead .upper) u)
     where
       by : Dec (lead .upper ≡ u) → k + lead .count ≤ c * r
-      by (yes q) = omega (arith, rw stores at (facts-of g el q .within))
-      by (no q) = omega (arith, rw names at (facts-other g el q h .within))
+      by (yes q) = omega (arith, rw (table .stores) at (facts-of g el q .within))
+      by (no q) = omega (arith, rw (table .names) at (facts-other g el q h .within))
 
   module _ {l : List ℕ} {next : ℕ} {l′ : List ℕ} {e rest next′ : ℕ} (en : Entered (colours x) l next s (lead .body) (lead .upper) u l′ e rest next′) where
     -- what has just been stored is there to be read
@@ -74,8 +89,8 @@ module _ (x : ℕ) (some : x ≢ 0) (most : x < 4) (u : ℕ) (stores : kindOf u 
     entry-inside = by (ℕ-discrete (lead .upper) u)
       where
         by : Dec (lead .upper ≡ u) → rest + 2 * x * lead .count ≤ length s
-        by (yes q) = rw (en .stored q .2) (rw (stores, one-mul (lead .count)) at (facts-of g el q .inside))
-        by (no q) = rw (en .named q .2) (rw (names, one-mul (lead .count)) at (facts-other g el q h .inside))
+        by (yes q) = rw (en .stored q .2) (rw (table .stores, one-mul (lead .count)) at (facts-of g el q .inside))
+        by (no q) = rw (en .named q .2) (rw (table .names, one-mul (lead .count)) at (facts-other g el q h .inside))
 
     pub entry-tabled : 0 < c → length l ≡ size x → next < capacity → (pic m pic′ m′ : List ℕ)
         → pic′ ≡ puts c k (λ i. chosen (flags x (part s (rest + 2 * x * i) (2 * x))) (part l′ e (colours x))) (lead .count) pic
@@ -86,10 +101,10 @@ module _ (x : ℕ) (some : x ≢ 0) (most : x < 4) (u : ℕ) (stores : kindOf u 
         by : Dec (lead .upper ≡ u) → Tabled x c r s at k pic m l next pic′ m′ l′ (rest + 2 * x * lead .count) (k + lead .count) next′
         by (yes q) =
             let t = en .stored q in
-            tabled-store x some most c r wide s at k pic m l next (g .within) (lead .count) (el .count) (lead .body) (el .body) rest pic′ m′ em
-            (kind-of g el q ∙ stores) (t .2) (entry-whole q) (omega (arith, entry-room (colours x) next capacity byte)) l′ (t .0) (rw (← t .1) ep) next′ (t .3)
+            tabled-store x (table .some) (table .most) c r wide s at k pic m l next (g .within) (lead .count) (el .count) (lead .body) (el .body) rest pic′ m′ em
+            (kind-of g el q ∙ table .stores) (t .2) (entry-whole q) (omega (arith, entry-room (colours x) next capacity byte)) l′ (t .0) (rw (← t .1) ep) next′ (t .3)
         by (no q) =
             let t = en .named q in
             rw (t .0, t .3)
-            (tabled-named x some most c r wide s at k pic m l next (g .within) (lead .count) (el .count) (lead .body) (el .body) rest pic′ m′ em
-            (kind-other g el q h ∙ names) (t .2) (getD s (lead .body) 0) refl (rw (t .0, t .1) at ep))
+            (tabled-named x (table .some) (table .most) c r wide s at k pic m l next (g .within) (lead .count) (el .count) (lead .body) (el .body) rest pic′ m′ em
+            (kind-other g el q h ∙ table .names) (t .2) (getD s (lead .body) 0) refl (rw (t .0, t .1) at ep))

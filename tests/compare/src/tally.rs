@@ -1,28 +1,10 @@
 //! What the compared chunks had in them, so that a run which missed something says so.
 
+use seatboard::Reason;
 use second::reader::{Command, Step};
 
 use crate::compare::Comparison;
 use crate::generate::Case;
-
-/// 01, "Numbered outcomes".
-const MEANINGS: [&str; 15] = [
-    "accepted",
-    "width or height not allowed",
-    "a lent picture or map is not of the exact length",
-    "chunk under 4 bytes",
-    "stated length differs from the bytes given",
-    "bytes end before an opcode, blocks remain",
-    "bytes end inside an opcode",
-    "opcode F",
-    "copy with no such block before",
-    "opcode runs past the last block",
-    "entry not filled in this chunk",
-    "bytes follow the last block",
-    "feed number badly formed",
-    "feed ends inside a number or a chunk",
-    "output too short",
-];
 
 /// How many calls got each number.
 #[derive(Default)]
@@ -36,7 +18,8 @@ impl Numbers {
     /// For the numbers that such a call can have.
     pub fn counts(&self, calls: &str, possible: impl IntoIterator<Item = usize>) -> Counts {
         let count = |number: usize| {
-            let meaning = MEANINGS[number];
+            let refused = number.checked_sub(1).map(|place| Reason::ALL[place]);
+            let meaning = refused.map_or("accepted".into(), |reason| reason.to_string());
             (format!("{calls} {number}: {meaning}"), self.0[number])
         };
         possible.into_iter().map(count).collect()

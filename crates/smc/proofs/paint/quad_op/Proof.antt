@@ -1,9 +1,9 @@
-use mathlib.Core.Path.{refl, ap, _∙_}
+use mathlib.Core.Path.{ap, _∙_}
 use native.Mathlib.Omega.{arith}
 use lib.ListN.{length}
 use Rattle.spec.proofs.Parts.{length-part}
 use Rattle.smc.specs.Tables.{colours}
-use Rattle.smc.proofs.Entering.{entry-whole, entry-first, entry-within, entry-stored, entry-room-left, entry-inside, entry-tabled}
+use Rattle.smc.proofs.Entering.{quads, entry-whole, entry-first, entry-within, entry-stored, entry-room-left, entry-inside, entry-tabled}
 use Rattle.smc.proofs.Opcodes.{count-within}
 use Rattle.smc.proofs.Runwise.{length-putEach, length-markEach}
 use Rattle.smc.proofs.paint.quad_op.Statement.{statement}
@@ -16,14 +16,14 @@ entry-of-requires : tie.Need-entry-of-requires
 entry-of-requires c κs =
     let z = c .before .before .before .before .before in
     let el = c .before .lead-at .ensures in
-    (omega arith, (z .pre .1 .1 .1, (entry-first 2 (λ e. omega arith) (omega arith) 10 refl refl _ _ (z .pre .1 .0) el (z .pre .1 .1 .0), entry-whole 2 (λ e. omega arith) (omega arith) 10 refl refl _ _ (z .pre .1 .0) el (z .pre .1 .1 .0))))
+    (omega arith, (z .pre .1 .1 .1, (entry-first quads _ _ (z .pre .1 .0) el (z .pre .1 .1 .0), entry-whole quads _ _ (z .pre .1 .0) el (z .pre .1 .1 .0))))
 
 colours-at-requires : tie.Need-colours-at-requires
 colours-at-requires c κs =
     let z = c .before .before .before .before .before .before .before .before .before in
     let el = c .before .before .before .before .before .lead-at .ensures in
     let en = c .before .before .before .entry-of .ensures in
-    (entry-room-left 2 (λ e. omega arith) (omega arith) 10 refl refl _ _ (z .pre .1 .0) el (z .pre .1 .1 .0) en (z .pre .1 .1 .1), entry-stored 2 (λ e. omega arith) (omega arith) 10 refl refl _ _ (z .pre .1 .0) el (z .pre .1 .1 .0) en (z .pre .1 .1 .1) (omega arith))
+    (entry-room-left quads _ _ (z .pre .1 .0) el (z .pre .1 .1 .0) en (z .pre .1 .1 .1), entry-stored quads _ _ (z .pre .1 .0) el (z .pre .1 .1 .0) en (z .pre .1 .1 .1) (omega arith))
 
 quad-run-requires : tie.Need-quad-run-requires
 quad-run-requires c κs =
@@ -31,25 +31,25 @@ quad-run-requires c κs =
     let el = c .before .before .before .before .before .before .before .before .lead-at .ensures in
     let en = c .before .before .before .before .before .before .entry-of .ensures in
     let cs = c .before .before .colours-at .ensures in
-    (z .pre .0 .canvas, (entry-within 2 (λ e. omega arith) (omega arith) 10 refl refl _ _ (z .pre .1 .0) el (z .pre .1 .1 .0), (z .pre .0 .entries, (entry-inside 2 (λ e. omega arith) (omega arith) 10 refl refl _ _ (z .pre .1 .0) el (z .pre .1 .1 .0) en, ap length cs ∙ length-part _ _ (colours 2) (entry-room-left 2 (λ e. omega arith) (omega arith) 10 refl refl _ _ (z .pre .1 .0) el (z .pre .1 .1 .0) en (z .pre .1 .1 .1))))))
+    (z .pre .0 .canvas, (entry-within quads _ _ (z .pre .1 .0) el (z .pre .1 .1 .0), (z .pre .0 .entries, (entry-inside quads _ _ (z .pre .1 .0) el (z .pre .1 .1 .0) en, ap length cs ∙ length-part _ _ (colours 2) (entry-room-left quads _ _ (z .pre .1 .0) el (z .pre .1 .1 .0) en (z .pre .1 .1 .1))))))
 
 mul-t25 : tie.Need-mul-t25
 mul-t25 c =
     let z = c .before .before .before .before .before .before .before .before .before .before .before .before .before .before .before .before .before in
     let el = c .before .before .before .before .before .before .before .before .before .before .before .before .before .lead-at .ensures in
-    omega (arith, entry-inside 2 (λ e. omega arith) (omega arith) 10 refl refl _ _ (z .pre .1 .0) el (z .pre .1 .1 .0) (c .before .before .before .before .before .before .before .before .before .before .before .entry-of .ensures))
+    omega (arith, entry-inside quads _ _ (z .pre .1 .0) el (z .pre .1 .1 .0) (c .before .before .before .before .before .before .before .before .before .before .before .entry-of .ensures))
 
 add-t26 : tie.Need-add-t26
 add-t26 c =
     let z = c .before .before .before .before .before .before .before .before .before .before .before .before .before .before .before .before .before in
     let el = c .before .before .before .before .before .before .before .before .before .before .before .before .before .lead-at .ensures in
-    omega (arith, entry-inside 2 (λ e. omega arith) (omega arith) 10 refl refl _ _ (z .pre .1 .0) el (z .pre .1 .1 .0) (c .before .before .before .before .before .before .before .before .before .before .before .entry-of .ensures))
+    omega (arith, entry-inside quads _ _ (z .pre .1 .0) el (z .pre .1 .1 .0) (c .before .before .before .before .before .before .before .before .before .before .before .entry-of .ensures))
 
 add-t27 : tie.Need-add-t27
 add-t27 c =
     let z = c .before .before .before .before .before .before .before .before .before .before .before .before .before .before .before .before .before in
     let el = c .before .before .before .before .before .before .before .before .before .before .before .before .before .lead-at .ensures in
-    omega (arith, entry-within 2 (λ e. omega arith) (omega arith) 10 refl refl _ _ (z .pre .1 .0) el (z .pre .1 .1 .0), z .pre .0 .entries)
+    omega (arith, entry-within quads _ _ (z .pre .1 .0) el (z .pre .1 .1 .0), z .pre .0 .entries)
 
 same-length : tie.Need-same-length
 same-length c = ap length (c .before .before .before .before .quad-run .ensures .0) ∙ length-putEach _ _ _ _ _
@@ -64,7 +64,7 @@ returns c =
     let en = c .before .before .before .before .before .before .before .before .before .before .before .entry-of .ensures in
     let cs = c .before .before .before .before .before .before .before .colours-at .ensures in
     let ran = c .before .before .before .before .quad-run .ensures in
-    entry-tabled 2 (λ e. omega arith) (omega arith) 10 refl refl _ _ (z .pre .1 .0) el (z .pre .1 .1 .0) en (z .pre .0 .canvas .wide) (z .pre .1 .1 .1) (omega arith) _ _ _ _ (rw cs at (ran .0)) (ran .1)
+    entry-tabled quads _ _ (z .pre .1 .0) el (z .pre .1 .1 .0) en (z .pre .0 .canvas .wide) (z .pre .1 .1 .1) (omega arith) _ _ _ _ (rw cs at (ran .0)) (ran .1)
 
 pub quad-op-spec : {M : Type 1} → statement M
 quad-op-spec =
