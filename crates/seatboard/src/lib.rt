@@ -8,6 +8,7 @@ ghost use Rattle.spec.specs.Boards.{board, read};
 ghost use Rattle.spec.specs.Feeds.{walk};
 ghost use Rattle.spec.specs.Maps.{freshMap, countMap};
 ghost use Rattle.spec.specs.Writing.{write};
+ghost use Rattle.sprite.specs.Symbols.{paintSymbol};
 
 // Makes a fresh map.
 #[no_mangle]
@@ -63,4 +64,20 @@ pub extern "C" fn seatboard_walk_feed(feed: &[u8], picture: &mut [u8], map: &mut
     ensures { λ _. ⌜ now (map .exit) ≡ walk (now (feed .entry)) (board (now (picture .entry)) (now (map .entry))) .board .map ⌝ }
 {
     feed::walk_feed(feed, picture, map)
+}
+
+// Paints a frame of a sprite file on a picture.
+#[no_mangle]
+pub extern "C" fn seatboard_paint_symbol(
+    size: Size,
+    picture: &mut [u8],
+    file: &[u8],
+    frame: usize,
+    left: i16,
+    top: i16,
+) -> Answer
+    ensures { λ r. ⌜ r ≡ paintSymbol size (now (picture .entry)) (now (file .entry)) frame left top .answer ⌝ }
+    ensures { λ _. ⌜ now (picture .exit) ≡ paintSymbol size (now (picture .entry)) (now (file .entry)) frame left top .picture ⌝ }
+{
+    sprite::paint_symbol(size, picture, file, frame, left, top)
 }

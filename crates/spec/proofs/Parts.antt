@@ -48,7 +48,7 @@ part-more : (l : List ℕ) (a i : ℕ) → a + i < length l → part l a (suc i)
 part-more l a i h = take-suc (drop a l) i 0 (rw length-drop (omega arith)) ∙ rw getD-drop
 
 -- a run of stores: one more at the end, elsewhere, and in its own place
-sets-more : (vs l : List ℕ) (i v : ℕ) → sets l i (vs ++ v ∷ []) ≡ set (sets l i vs) (i + length vs) v
+pub sets-more : (vs l : List ℕ) (i v : ℕ) → sets l i (vs ++ v ∷ []) ≡ set (sets l i vs) (i + length vs) v
 sets-more [] l i v = rw (add-zero i)
 sets-more (x ∷ vs) l i v = sets-more vs (set l i x) (suc i) v ∙ rw (add-suc i (length vs), suc-add i (length vs))
 
@@ -57,13 +57,13 @@ sets-step t₀ t s e q i h g =
     let l = length-part s q i (omega arith) in
     rw (add-one, part-more s q i h, sets-more (part s q i) t₀ e (getD s (q + i) 0), l, g)
 
-sets-out : (l : List ℕ) (i : ℕ) (vs : List ℕ) (p d : ℕ) → ((j : ℕ) → j < length vs → p ≢ i + j) → getD (sets l i vs) p d ≡ getD l p d
+pub sets-out : (l : List ℕ) (i : ℕ) (vs : List ℕ) (p d : ℕ) → ((j : ℕ) → j < length vs → p ≢ i + j) → getD (sets l i vs) p d ≡ getD l p d
 sets-out l i [] p d h = refl
 sets-out l i (v ∷ vs) p d h =
     sets-out (set l i v) (suc i) vs p d (λ j hj e. h (suc j) (omega arith) (omega arith))
     ∙ getD-set-other l i p v d (λ e. h 0 (omega arith) (omega arith))
 
-sets-in : (l : List ℕ) (i : ℕ) (vs : List ℕ) (j d : ℕ) → j < length vs → i + length vs ≤ length l → getD (sets l i vs) (i + j) d ≡ getD vs j d
+pub sets-in : (l : List ℕ) (i : ℕ) (vs : List ℕ) (j d : ℕ) → j < length vs → i + length vs ≤ length l → getD (sets l i vs) (i + j) d ≡ getD vs j d
 sets-in l i [] j d h g = absurd (omega arith)
 sets-in l i (v ∷ vs) zero d h g =
     let e : i + 0 ≡ i = omega arith in

@@ -1,4 +1,4 @@
--- 01, "Numbered outcomes": the name of each number, and its row of the table. Assumes nothing.
+-- 01, "Numbered outcomes", and the numbers of later requests: the name of each, and what it is given for. Assumes nothing.
 use Prim.Native.Nat.{ℕ, zero, suc}
 use Rattle.spec.specs.declared.Answer.{Answer}
 
@@ -61,6 +61,30 @@ feedCut = 13
 -- output too short
 abbrev pub outputShort : ℕ
 outputShort = 14
+
+-- a sprite file's head or offset table is cut short, or its version is another
+abbrev pub badSprite : ℕ
+badSprite = 15
+
+-- there is no frame of this number
+abbrev pub noSuchFrame : ℕ
+noSuchFrame = 16
+
+-- a frame's head is cut short, or one of its first two words is not zero
+abbrev pub badFrame : ℕ
+badFrame = 17
+
+-- a row's head is cut short, has another code, counts under 4, or goes past the height or the bytes
+abbrev pub badRow : ℕ
+badRow = 18
+
+-- a segment has another code, or goes past its row's count or the width
+abbrev pub badSegment : ℕ
+badSegment = 19
+
+-- the end marker does not follow the rows
+abbrev pub noEndMarker : ℕ
+noEndMarker = 20
 
 -- a number and a place
 abbrev pub answer : ℕ → ℕ → Answer

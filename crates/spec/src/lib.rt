@@ -7,7 +7,7 @@ pub struct Answer {
     pub place: usize,
 }
 
-// Paper 01, "Numbered outcomes". specs/Answers.antt has the same names for the definitions.
+// Paper 01, "Numbered outcomes", and the numbers of later requests. specs/Answers.antt has the same names for the definitions.
 impl Answer {
     // accepted
     pub const OK: u8 = 0;
@@ -39,6 +39,18 @@ impl Answer {
     pub const FEED_CUT: u8 = 13;
     // output too short
     pub const OUTPUT_SHORT: u8 = 14;
+    // a sprite file's head or offset table is cut short, or its version is another
+    pub const BAD_SPRITE: u8 = 15;
+    // there is no frame of this number
+    pub const NO_SUCH_FRAME: u8 = 16;
+    // a frame's head is cut short, or one of its first two words is not zero
+    pub const BAD_FRAME: u8 = 17;
+    // a row's head is cut short, has another code, counts under 4, or goes past the height or the bytes
+    pub const BAD_ROW: u8 = 18;
+    // a segment has another code, or goes past its row's count or the width
+    pub const BAD_SEGMENT: u8 = 19;
+    // the end marker does not follow the rows
+    pub const NO_END_MARKER: u8 = 20;
 }
 
 // A picture's width and height in pixels.

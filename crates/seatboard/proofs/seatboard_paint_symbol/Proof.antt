@@ -1,0 +1,21 @@
+use Rattle.sprite.proofs.Positions.{narrow}
+use borrow.Author.Needs.{needs}
+use Rattle.seatboard.proofs.seatboard_paint_symbol.Statement.{statement}
+use Rattle.seatboard.proofs.seatboard_paint_symbol.Tie as tie
+use Rattle.seatboard.proofs.seatboard_paint_symbol.Reads as reads
+use Rattle.seatboard.proofs.seatboard_paint_symbol.Lts as lts
+use Rattle.sprite.proofs.paint_symbol.Reads as paint-symbol-reads
+
+paint-symbol-requires : tie.Need-paint-symbol-requires
+paint-symbol-requires c κs = search needs
+
+same-length : tie.Need-same-length
+same-length c = search needs
+
+returns : tie.Need-returns
+returns c =
+    let a = c .before .before .before .before .before .before .args in
+    rw (← narrow (a .left) (c .before .before .before .before .before .before .fits .left), ← narrow (a .top) (c .before .before .before .before .before .before .fits .top)) (c .before .before .paint-symbol .ensures)
+
+pub seatboard-paint-symbol-spec : {M : Type 1} → statement M
+seatboard-paint-symbol-spec = tie.close (tie.spec paint-symbol-requires same-length returns)

@@ -1,0 +1,36 @@
+use borrow.Author.Needs.{needs}
+use borrow.Author.Needs.{needs}
+use Rattle.sprite.proofs.paint.clip.Statement.{statement}
+use Rattle.sprite.proofs.paint.clip.Tie as tie
+
+less-requires : tie.Need-less-requires
+less-requires c κs = search needs
+
+less-requires-2 : tie.Need-less-requires-2
+less-requires-2 c κs = search needs
+
+less-requires-3 : tie.Need-less-requires-3
+less-requires-3 c κs = search needs
+
+less-requires-4 : tie.Need-less-requires-4
+less-requires-4 c κs = search needs
+
+lesser-requires : tie.Need-lesser-requires
+lesser-requires c κs = search needs
+
+returns : tie.Need-returns
+returns c =
+    let a = c .before .before .before .before .less .ensures in
+    let b = c .before .before .before .less2 .ensures in
+    (a, (b, rw (← a, ← b, ← c .before .before .less3 .ensures, ← c .before .less4 .ensures) (c .lesser .ensures)))
+
+pub clip-spec : {M : Type 1} → statement M
+clip-spec =
+    tie.close
+    (tie.spec
+    less-requires
+    less-requires-2
+    less-requires-3
+    less-requires-4
+    lesser-requires
+    returns)
