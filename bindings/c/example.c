@@ -1,4 +1,4 @@
-/* Gets a picture out of two chunks, shows which blocks can be trusted, and writes a chunk of its own.
+/* Gets a picture out of two chunks, shows which blocks can be trusted, writes a chunk of its own, and paints a symbol.
  * cc example.c libseatboard.a -o example && ./example */
 #include <stdio.h>
 #include <string.h>
@@ -14,6 +14,33 @@ static void show(const char *call, struct seatboard_answer answer)
     printf("%s: %u at %zu\n", call, answer.number, answer.place);
 }
 
+static void print_picture(const uint8_t *picture)
+{
+    for (int y = 0; y < HEIGHT; y++) {
+        for (int x = 0; x < WIDTH; x++)
+            printf(" %u", picture[y * WIDTH + x]);
+        printf("\n");
+    }
+}
+
+/* On a copy, so that the held picture stays as its map says. */
+static void paint_symbol(const uint8_t *held)
+{
+    /* a file with its lowest bytes first: version 502, one frame, palette 0, the frame at 16; there two zero words,
+     * height 4, width 4, a word that is passed over, four rows, and the end marker */
+    const uint8_t chair[] = {0xF6, 1, 0, 0, 1, 0, 0, 0, 0, 0, 0, 0, 16, 0, 0, 0,
+                             0, 0, 0, 0, 4, 0, 4, 0, 0, 0,
+                             4, 6, 2, 1, 8, 8,
+                             4, 6, 2, 1, 8, 8,
+                             4, 6, 2, 4, 8, 8,
+                             4, 12, 2, 1, 8, 8, 1, 2, 2, 1, 8, 8,
+                             5, 0};
+    uint8_t shown[PIXELS];
+    memcpy(shown, held, PIXELS);
+    show("paint symbol", seatboard_paint_symbol(size, shown, PIXELS, chair, sizeof chair, 0, 5, 2));
+    print_picture(shown);
+}
+
 int main(void)
 {
     uint8_t picture[PIXELS] = {0};
@@ -23,11 +50,7 @@ int main(void)
     /* two blocks kept, one of colour 5, one of colours 3 and 7 by flags */
     const uint8_t chunk[] = {0xE1, 0, 0, 12, 0x01, 0x60, 5, 0x80, 3, 7, 0x00, 0x0F};
     show("read chunk", seatboard_read_chunk(size, chunk, sizeof chunk, picture, PIXELS, map, BLOCKS));
-    for (int y = 0; y < HEIGHT; y++) {
-        for (int x = 0; x < WIDTH; x++)
-            printf(" %u", picture[y * WIDTH + x]);
-        printf("\n");
-    }
+    print_picture(picture);
     printf("unsettled: %zu\n", seatboard_count(size, map, BLOCKS).unsettled);
 
     /* a chunk that asks for a block before the first: refused, and nothing has changed */
@@ -45,5 +68,6 @@ int main(void)
     /* a feed: width / 4, height / 4, then each chunk behind its length */
     const uint8_t feed[] = {2, 2, 6, 0xE1, 0, 0, 6, 0x63, 4};
     show("walk feed", seatboard_walk_feed(feed, sizeof feed, picture, PIXELS, map, BLOCKS));
+    paint_symbol(picture);
     return 0;
 }

@@ -1,6 +1,7 @@
 /*
  * seatboard.h - the proved picture codec of the seat boards: SMC chunks read and written, the map that says which blocks
- * of a picture can be trusted, and the walk of the house feed. Link with libseatboard.a. For x86-64 Linux, C99 or C++.
+ * of a picture can be trusted, the walk of the house feed, and seat symbols painted on a shown picture. Link with
+ * libseatboard.a. For x86-64 Linux, C99 or C++.
  *
  * What the library promises
  *   Whatever bytes and lengths it is lent, every call comes back with one of the numbers below. It reads and writes
@@ -10,11 +11,12 @@
  *
  * What the caller owes (nothing checks it)
  *   - Each pointer is good for as many elements as the length after it says, for reading, and for writing where it is not
- *     const. Lengths count elements: bytes of chunks, pictures, feeds and outputs, 16-bit numbers of maps.
+ *     const. Lengths count elements: bytes of chunks, pictures, feeds, outputs and files, 16-bit numbers of maps.
  *   - Where a length is 0 its pointer may be anything, NULL too.
  *   - A buffer that is not const overlaps no other buffer of the call. Two const ones may overlap or be the same.
  *   - A map is aligned for uint16_t, as any array of uint16_t is.
  *   - No other thread touches the buffers during the call.
+ *   - For the map to stay true, symbols are painted on a copy of the held picture: see seatboard_paint_symbol.
  *
  * Picture, blocks, map
  *   One byte a pixel, row after row: a picture of width x height bytes. Width and height are multiples of 4, width 4 to
@@ -47,10 +49,10 @@ extern "C" {
 
 /* The numbers that a call answers with, and the place that comes with each. Places count bytes from 0 at the chunk's
  * first byte, and for a walk's own 0, 12 and 13 at the feed's. They are looked for in this order: 1, 2, 3, 4, then
- * opcode by opcode, 11 last. */
+ * opcode by opcode, 11 last. Of a symbol: 1, 2, 15, 16, 17, then row by row 18 and 19, 20 last. */
 enum {
     SEATBOARD_OK = 0,              /* accepted; the place is the length of the chunk or feed read, or of the chunk
-                                      written, and 0 for fresh map and count */
+                                      written, and 0 for fresh map, count and symbol */
     SEATBOARD_BAD_SIZE = 1,        /* width or height not allowed; 0 */
     SEATBOARD_BAD_LENGTH = 2,      /* a lent picture or map is not of the exact length; 0 */
     SEATBOARD_CHUNK_SHORT = 3,     /* chunk under 4 bytes; 0 */
@@ -64,7 +66,16 @@ enum {
     SEATBOARD_BYTES_FOLLOW = 11,   /* bytes follow the last block; the first such byte */
     SEATBOARD_BAD_VARINT = 12,     /* a number of the feed is badly formed; that number */
     SEATBOARD_FEED_CUT = 13,       /* the feed ends inside a number or a chunk; the number, or the chunk's first byte */
-    SEATBOARD_OUTPUT_SHORT = 14    /* the output is shorter than the chunk; 0 */
+    SEATBOARD_OUTPUT_SHORT = 14,   /* the output is shorter than the chunk; 0 */
+    SEATBOARD_BAD_SPRITE = 15,     /* a symbol file's head or offset table is cut short, or another version; 0 */
+    SEATBOARD_NO_SUCH_FRAME = 16,  /* frame number not below the file's count; 0 */
+    SEATBOARD_BAD_FRAME = 17,      /* fewer than 10 bytes from the frame's offset, or one of its first two words not
+                                      zero; 0 */
+    SEATBOARD_BAD_ROW = 18,        /* a row head cut short, of another code, counting under 4, past the height or past
+                                      the bytes; 0 */
+    SEATBOARD_BAD_SEGMENT = 19,    /* a segment of another code, past its row's count or past the width, or a byte of
+                                      the row left over; 0 */
+    SEATBOARD_NO_END_MARKER = 20   /* rows done, the next two bytes are not 05 00; 0 */
 };
 
 struct seatboard_size {
@@ -103,6 +114,15 @@ struct seatboard_answer seatboard_write_chunk(struct seatboard_size size, const 
  * leaves what the chunks accepted before that made. */
 struct seatboard_answer seatboard_walk_feed(const uint8_t *feed, size_t feed_length, uint8_t *picture,
                                             size_t picture_length, uint16_t *map, size_t map_length);
+
+/* Paints a frame of an SPR# file, numbered from 0, on a shown picture. The frame's upper left pixel falls on column
+ * left, row top, which may lie off the picture; pixels off it are dropped, and background leaves the picture's pixel.
+ * The frame is checked whole before the first pixel is painted. Answers 0, 1, 2 or 15 to 20, at place 0.
+ * The map does not learn of it, and chunks copy from the picture that they are read over. So copy the held picture
+ * first and paint on the copy: then the held picture and its map stay true to each other. */
+struct seatboard_answer seatboard_paint_symbol(struct seatboard_size size, uint8_t *picture, size_t picture_length,
+                                               const uint8_t *file, size_t file_length, size_t frame, int16_t left,
+                                               int16_t top);
 
 #ifdef __cplusplus
 }

@@ -8,6 +8,7 @@
  *     READ, WALK             a length, two bytes, lowest first, and as many bytes
  *     WRITE                  the output's room and the new picture: see write_call
  *     NUMBERS                a length and bytes, which become the map, over and over
+ *     PAINT                  left and top, two bytes each, a frame, and a length and bytes: see paint_call
  *
  * Bytes after the input's end are 0.
  */
@@ -17,13 +18,15 @@
 #include "loans.h"
 #include "promises.h"
 
-enum { FRESH_MAP, COUNT, NUMBERS, WALK, WRITE, READ, CALL = 7 }; /* 6 and 7 read too */
+enum { FRESH_MAP, COUNT, NUMBERS, WALK, WRITE, READ, PAINT, CALL = 7 }; /* 7 reads too */
 enum {
     EARLY = 8,    /* the buffers begin where their pages begin */
     ODD = 16,
     REPAIR = 32,  /* the chunk states its length; the feed has the board's size, and its chunks state theirs */
     OVERLAP = 32, /* the new picture starts in the old one */
-    CLOSE = 64    /* the chunk is made one that is accepted */
+    HEAD = 32,    /* the symbol file gets a head */
+    CLOSE = 64,   /* the chunk is made one that is accepted */
+    HIGHEST = 64  /* that head has its highest bytes first */
 };
 
 struct input {
@@ -188,6 +191,35 @@ static void numbers_call(struct input *in)
         board.map[k] = (uint16_t)(bytes[2 * k % length] | bytes[(2 * k + 1) % length] << 8);
 }
 
+/* ---- symbols ---- */
+
+/* Version, count, palette, offset, and the frame's first two words. */
+static size_t put_head(uint8_t *to, bool highest)
+{
+    static const unsigned numbers[] = {502, 1, 0, 16, 0};
+    for (size_t k = 0; k < sizeof numbers; k++)
+        to[k] = (uint8_t)(numbers[k / 4] >> 8 * (highest ? 3 - k % 4 : k % 4));
+    return sizeof numbers;
+}
+
+static size_t odd_frame(unsigned kind)
+{
+    static const size_t frames[] = {BIT(16), BIT(30), BIT(32), BIT(32) + 1, BIT(62), BIT(62) + 1, BIT(63), SIZE_MAX};
+    return kind < 248 ? kind : frames[kind - 248];
+}
+
+/* The last eight frames are odd ones. Where a head is put in front, the bytes begin with the frame's height. */
+static void paint_call(struct input *in, unsigned how)
+{
+    struct symbol symbol = {.file = bytes};
+    symbol.left = (int16_t)next_pair(in);
+    symbol.top = (int16_t)next_pair(in);
+    symbol.frame = odd_frame(next(in));
+    symbol.length = how & HEAD ? put_head(bytes, how & HIGHEST) : 0;
+    symbol.length += next_bytes(in, bytes + symbol.length);
+    try_paint(&board, &symbol);
+}
+
 /* ---- the whole ---- */
 
 static void one_call(struct input *in)
@@ -204,6 +236,7 @@ static void one_call(struct input *in)
     case NUMBERS: numbers_call(in); break;
     case WALK: walk_call(in, how); break;
     case WRITE: write_call(in, how); break;
+    case PAINT: paint_call(in, how); break;
     default: read_call(in, how);
     }
     board.size = size;

@@ -16,6 +16,7 @@ typedef struct seatboard_answer Answer;
 
 static struct board start, twin; /* the board that a call is given, and another to try the like on */
 static uint8_t outputs[2][MOST], wanted[MOST], feed_of_one[MOST];
+static int stamps[2][MAX_PIXELS];
 
 static void broken(const char *promise)
 {
@@ -380,6 +381,129 @@ void try_write(struct board *board, const struct wish *wish)
     PROMISE(again.number != 0 || memcmp(outputs[0], outputs[1], said.place) == 0);
     if (board_refusal(board) == 0)
         read_back(board, wish, outputs[0], said.place);
+}
+
+/* ---- painting ---- */
+
+static Answer call_paint(struct board *board, const struct symbol *symbol)
+{
+    struct loan file = lend_const(CHUNK, symbol->file, symbol->length);
+    struct loan picture = lend(PICTURE, board->picture, board->pixels);
+    loan_blur(&picture);
+    Answer said = seatboard_paint_symbol(board->size, picture.lent, board->pixels, file.lent, symbol->length,
+                                         symbol->frame, symbol->left, symbol->top);
+    loan_clear(&picture);
+    PROMISE(said.place == 0);
+    PROMISE(loan_kept(&file, 0));
+    PROMISE(loan_kept(&picture, said.number == 0 ? picture.length : 0));
+    loan_end(&file, NULL);
+    loan_end(&picture, board->picture);
+    return said;
+}
+
+/* A number of the file, in the order that its first two bytes tell. */
+static size_t file_number(const uint8_t *file, size_t at, size_t bytes)
+{
+    bool highest_first = file[0] == 0 && file[1] == 0;
+    size_t number = 0;
+    for (size_t k = 0; k < bytes; k++)
+        number = number << 8 | file[at + (highest_first ? k : bytes - 1 - k)];
+    return number;
+}
+
+/* Of a frame that the table has. */
+static size_t offset_of(const struct symbol *symbol)
+{
+    return file_number(symbol->file, 12 + 4 * symbol->frame, 4);
+}
+
+/* 1, 2 and 15 to 17, which no row has a say in, or 0. */
+static unsigned symbol_refusal(const struct board *board, const struct symbol *symbol)
+{
+    const uint8_t *file = symbol->file;
+    if (!allowed(board->size))
+        return SEATBOARD_BAD_SIZE;
+    if (board->pixels != SEATBOARD_PIXELS(board->size.width, board->size.height))
+        return SEATBOARD_BAD_LENGTH;
+    if (symbol->length < 12)
+        return SEATBOARD_BAD_SPRITE;
+    size_t version = file_number(file, 0, 4), count = file_number(file, 4, 4);
+    if (version < 502 || version > 505 || (symbol->length - 12) / 4 < count)
+        return SEATBOARD_BAD_SPRITE;
+    if (symbol->frame >= count)
+        return SEATBOARD_NO_SUCH_FRAME;
+    size_t offset = offset_of(symbol);
+    if (offset > symbol->length || symbol->length - offset < 10)
+        return SEATBOARD_BAD_FRAME;
+    return file_number(file, offset, 4) == 0 ? 0 : SEATBOARD_BAD_FRAME;
+}
+
+/* What a symbol that is accepted does to each pixel, whatever the picture: the colour that it gets, or -1 where it is
+ * left. Painted on two pictures that differ in every pixel. */
+static void stamp(const struct board *board, const struct symbol *symbol, int *colours)
+{
+    static const uint8_t grounds[] = {0, 255};
+    for (int ground = 0; ground < 2; ground++) {
+        copy_board(&twin, board);
+        memset(twin.picture, grounds[ground], twin.pixels);
+        PROMISE(call_paint(&twin, symbol).number == 0);
+        memcpy(outputs[ground], twin.picture, twin.pixels);
+    }
+    for (size_t k = 0; k < board->pixels; k++) {
+        bool left = outputs[0][k] == grounds[0] && outputs[1][k] == grounds[1];
+        PROMISE(left || outputs[0][k] == outputs[1][k]);
+        colours[k] = left ? -1 : outputs[0][k];
+    }
+}
+
+/* Nothing is coloured outside the frame's own height and width. */
+static void promise_extent(const struct board *board, const struct symbol *symbol)
+{
+    size_t offset = offset_of(symbol);
+    long height = (long)file_number(symbol->file, offset + 4, 2), width = (long)file_number(symbol->file, offset + 6, 2);
+    for (size_t k = 0; k < board->pixels; k++) {
+        long column = (long)(k % board->size.width) - symbol->left, row = (long)(k / board->size.width) - symbol->top;
+        bool inside = 0 <= column && column < width && 0 <= row && row < height;
+        PROMISE(inside || stamps[0][k] < 0);
+    }
+}
+
+/* One pixel further each way, or back where there is no further, all that is on the picture both times is the same. */
+static void promise_shift(const struct board *board, const struct symbol *symbol)
+{
+    size_t width = board->size.width, height = board->size.height;
+    struct symbol shifted = *symbol;
+    int across = symbol->left < INT16_MAX ? 1 : -1, down = symbol->top < INT16_MAX ? 1 : -1;
+    shifted.left = (int16_t)(symbol->left + across);
+    shifted.top = (int16_t)(symbol->top + down);
+    stamp(board, &shifted, stamps[1]);
+    const int *from = stamps[0] + (across < 0) + (down < 0) * width;
+    const int *to = stamps[1] + (across > 0) + (down > 0) * width;
+    for (size_t row = 0; row + 1 < height; row++)
+        PROMISE(memcmp(from + row * width, to + row * width, (width - 1) * sizeof *to) == 0);
+}
+
+void try_paint(const struct board *board, const struct symbol *symbol)
+{
+    unsigned refusal = symbol_refusal(board, symbol);
+    copy_board(&start, board);
+    Answer said = call_paint(&start, symbol);
+    PROMISE(refusal ? said.number == refusal
+                    : said.number == 0 || (SEATBOARD_BAD_ROW <= said.number && said.number <= SEATBOARD_NO_END_MARKER));
+
+    lend_early = !lend_early; /* the same bytes at other addresses */
+    copy_board(&twin, board);
+    PROMISE(same_answer(call_paint(&twin, symbol), said) && same_board(&twin, &start));
+    struct symbol elsewhere = *symbol;
+    elsewhere.left = elsewhere.top = 0;
+    PROMISE(same_answer(call_paint(&twin, &elsewhere), said));
+    if (said.number != 0)
+        return;
+    stamp(board, symbol, stamps[0]);
+    for (size_t k = 0; k < board->pixels; k++)
+        PROMISE(start.picture[k] == (stamps[0][k] < 0 ? board->picture[k] : stamps[0][k]));
+    promise_extent(board, symbol);
+    promise_shift(board, symbol);
 }
 
 /* ---- lengths that three bytes cannot state ---- */

@@ -55,6 +55,16 @@ struct wish {
 /* Leaves the new picture on the board. */
 void try_write(struct board *board, const struct wish *wish);
 
+/* A frame of a file, and where its upper left pixel falls. */
+struct symbol {
+    const uint8_t *file;
+    size_t length, frame;
+    int16_t left, top;
+};
+
+/* Paints on copies of the board's picture, and leaves the board as it is. */
+void try_paint(const struct board *board, const struct symbol *symbol);
+
 /* Chunks of 2^24 - 1 bytes and of a few more, read and walked. */
 void try_longest_chunks(void);
 

@@ -1,8 +1,8 @@
 /*
  * The seeds, written as attack.c reads them: width, height, picture, then calls. The calls, in hex: 00 fresh map, 01
- * count, 02 numbers, 03 walk (23 repaired), 04 write (24 overlapping), 05 read (25 repaired, 65 closed too); 08 more
- * where buffers begin at a page's start, 10 more where size and lengths are odd. A chunk or feed stands behind its
- * length.
+ * count, 02 numbers, 03 walk (23 repaired), 04 write (24 overlapping), 05 read (25 repaired, 65 closed too), 06 paint
+ * (26 with a head put in front, 66 with its highest bytes first); 08 more where buffers begin at a page's start, 10
+ * more where size and lengths are odd. A chunk, feed or symbol stands behind its length.
  */
 #include <string.h>
 
@@ -10,6 +10,14 @@
 
 #define SIXTEEN "000102030405060708090A0B0C0D0E0F"
 #define FILLED(first) first "FF 0F " SIXTEEN /* 256 blocks of 16 colours */
+
+/* a symbol of every code, 3 rows by 4 pixels, behind its head; 32 times 255 rows of background; and a symbol of 65,535
+ * rows, row 32,771 with a pixel */
+#define SYMBOL "0300 0400 0000 040A 0101 0202 0707 0101 0901 0408 0303 010203 00 0500"
+#define HIGH_SYMBOL "0003 0004 0010 040A 0101 0202 0708 0101 0901 0408 0303 010203 FF 0500"
+#define EIGHT(row) row row row row row row row row
+#define ROWS EIGHT("09FF 09FF 09FF 09FF")
+#define HIGHEST "FFFF01000000" ROWS ROWS ROWS ROWS "0983 0406 0201 0707" ROWS ROWS ROWS ROWS "097B 0500"
 
 static const char *const seeds[] = {
     /* paper 01's examples 2 to 13 and 15 */
@@ -63,6 +71,48 @@ static const char *const seeds[] = {
     "  13 1B 1B 09 0000",
     "07 07 00  10 10 10 00  11 10 1B 00  15 10 10 00 0600 E10000066005  14 1B 10 00 00 00  1C 1A 18 00 00 00"
     "  15 08 1B 3F 0000",
+    /* symbols: within, about each corner, and far off, in both orders */
+    "01 00 07  26 0200 0100 00 1C00" SYMBOL "  2E FFFF FFFF 00 1C00" SYMBOL "  26 0600 0200 00 1C00" SYMBOL
+    "  2E FEFF 0300 00 1C00" SYMBOL "  66 0500 FEFF 00 1C00" HIGH_SYMBOL "  6E FCFF FDFF 00 1C00" HIGH_SYMBOL
+    "  66 0080 0080 00 1C00" HIGH_SYMBOL "  6E FF7F FF7F 00 1C00" HIGH_SYMBOL,
+    /* whole files: three frames of which two share an offset and one has none; a frame in its own table */
+    "04 02 05  06 0100 0100 01 3800 F7010000 03000000 07000000 FFFFFFFF 18000000 18000000 00000000" SYMBOL
+    "  0E 0000 0000 02 3800 F8010000 03000000 07000000 FFFFFFFF 18000000 18000000 00000000" SYMBOL
+    "  06 0100 0100 00 3800 F9010000 03000000 07000000 FFFFFFFF 18000000 18000000 00000000" SYMBOL
+    "  0E 0000 0000 00 1400 000001F6 00000002 00000000 00000008 00000500",
+    /* 15: no file, cut heads, versions, counts; 16: the count, odd frames; 17: words, offsets and lengths */
+    "00 00 00  06 0000 0000 00 0000  0E 0000 0000 00 0100 00  06 0000 0000 00 0B00 F6010000 01000000 000000"
+    "  0E 0000 0000 00 0F00 F6010000 01000000 00000000 100000  06 0000 0000 00 1000 F5010000 01000000 00000000 10000000"
+    "  06 0000 0000 00 1000 000001FA 00000001 00000000 00000010"
+    "  0E 0000 0000 00 1000 F6010000 01000040 00000000 10000000  06 0000 0000 00 0C00 F6010000 FFFFFFFF 00000000",
+    "00 00 00  26 0000 0000 01 1C00" SYMBOL "  26 0000 0000 FA 1C00" SYMBOL "  2E 0000 0000 FC 1C00" SYMBOL
+    "  26 0000 0000 FF 1C00" SYMBOL "  06 0000 0000 00 0C00 F6010000 00000000 00000000  26 0000 0000 00 0500 0000000000"
+    "  06 0000 0000 00 1C00 F6010000 01000000 00000000 10000000 00000100 0000 0000 0000 0500"
+    "  0E 0000 0000 00 1A00 F6010000 01000000 00000000 F7FFFFFF 00000000 0000 0000 0000",
+    /* 18: no head, half a head, another code, under 4, past the height, past the bytes */
+    "00 00 00  26 0000 0000 00 0600 010002000000  2E 0000 0000 00 0700 010002000000 04"
+    "  26 0000 0000 00 0800 010002000000 0500  2E 0000 0000 00 0900 010002000000 0403 01"
+    "  26 0000 0000 00 0A00 010002000000 0902 0500  2E 0000 0000 00 0B00 010002000000 0406 0202 07"
+    "  26 0000 0000 00 0E00 020002000000 0404 0102 0701 0500",
+    /* 19: another code, past the row, a byte left over, a pad byte that is not there, past the width */
+    "00 00 00  26 0000 0000 00 0C00 010002000000 0404 0401 0500  2E 0000 0000 00 0C00 010002000000 0404 0201 0707"
+    "  26 0000 0000 00 0D00 010002000000 0405 0101 01 0500  2E 0000 0000 00 0D00 010003000000 0405 0301 07 0500"
+    "  26 0000 0000 00 0E00 010002000000 0406 0203 0707 0500  2E 0000 0000 00 0C00 010000000000 0404 0101 0500",
+    /* 20: other bytes, half a marker, a row too many; accepted: no rows, no width, 09 00, bytes behind the marker */
+    "00 00 00  26 0000 0000 00 0A00 010002000000 0901 0501  2E 0000 0000 00 0900 010002000000 0901 05"
+    "  26 0000 0000 00 0C00 010002000000 0901 0900 0500  2E 0000 0000 00 0800 000000000000 0500"
+    "  26 0000 0000 00 0A00 000002000000 0500 0404  2E 0000 0000 00 1400 020000000000 0900 0408 0100 0200 0707 0901 0500",
+    /* high ones, of which the last row shows, is refused, or is not there; the highest, whose pixel shows, or would in
+     * 16 bits; one wider than the board on both sides, and one of which the last columns show */
+    "07 07 03  26 0000 20E0 00 5200 E21F02000000" ROWS "0404 0102 0406 0202 0707 0500"
+    "  2E 0000 20E0 00 5000 E21F02000000" ROWS "0402 0406 0202 0707 0500  26 0500 0080 00 4600 00E002000000" ROWS,
+    "07 07 03  26 0400 0080 00 1202" HIGHEST "  2E 0400 FD7F 00 1202" HIGHEST,
+    "07 00 01  2E FDFF FFFF 00 2000 0300FF000000 0406 02FF 0102 0408 01C8 0237 0505 040A 0201 0606 0302 0809 0500"
+    "  26 02FC 0000 00 1600 0100FFFF0000 040E 01FF 01FF 01FF 01FF 02FF 0506 0500",
+    /* by sides and lengths that are odd */
+    "07 07 00  16 14 14 07 0000 0000 00 0000  1E 1B 1B 02 0000 0000 00 0000  36 1B 1B 03 0000 0000 00 1C00" SYMBOL
+    "  3E 1B 1B 01 0000 0000 00 1C00" SYMBOL "  36 10 1B 00 0000 0000 00 1C00" SYMBOL
+    "  36 1B 1B 08 FFFF FFFF 00 1C00" SYMBOL,
 };
 
 #define SEEDS (sizeof seeds / sizeof *seeds)
@@ -139,12 +189,14 @@ static size_t edited(uint64_t *state, uint8_t *input, size_t length)
     return length;
 }
 
-/* A seed with some edits, and in one case of four any bytes behind it; in one of eight any bytes on a small board. */
+/* A seed with some edits, and in one case of four any bytes behind it; in one of eight any bytes on a small board, for
+ * a chunk or for a symbol's rows. */
 size_t made_input(uint64_t number, uint8_t input[LONGEST_INPUT])
 {
     uint64_t state = number;
     unsigned kind = (below(&state, 8), below(&state, 8)); /* the first step still shows the number */
-    size_t length = kind == 0 ? from_hex("02 02 00 65 FF00 E1000000", input) : seed(below(&state, SEEDS + 1), input);
+    const char *any = below(&state, 2) ? "02 02 00 65 FF00 E1000000" : "02 02 00 26 0000 0000 00 FF00 0200 0400 0000";
+    size_t length = kind == 0 ? from_hex(any, input) : seed(below(&state, SEEDS + 1), input);
     for (unsigned edits = below(&state, 6); kind > 0 && edits > 0; edits--)
         length = edited(&state, input, length);
     for (unsigned more = kind < 3 ? below(&state, 300) : 0; more > 0 && length < LONGEST_INPUT; more--)

@@ -1,5 +1,5 @@
 /*
- * How much stack each function of the library takes. Linked with `--wrap` for each of the five, every call of theirs is
+ * How much stack each function of the library takes. Linked with `--wrap` for each of the six, every call of theirs is
  * made on a painted stack of its own; at the end it is said how much paint the worst call of each has touched.
  */
 #include <stdio.h>
@@ -25,7 +25,7 @@ static struct taken {
     size_t bytes;
 } empty = {"an empty call", 0}, fresh_map = {"seatboard_fresh_map", 0}, count = {"seatboard_count", 0},
   read_chunk = {"seatboard_read_chunk", 0}, write_chunk = {"seatboard_write_chunk", 0},
-  walk_feed = {"seatboard_walk_feed", 0};
+  walk_feed = {"seatboard_walk_feed", 0}, paint_symbol = {"seatboard_paint_symbol", 0};
 
 /* What the call under way was lent, and what came back. */
 static struct lent {
@@ -37,6 +37,8 @@ static struct lent {
     uint16_t *map;
     const uint16_t *counted;
     size_t map_length;
+    size_t frame;
+    int16_t left, top;
     Answer answer;
     struct seatboard_count count;
 } lent;
@@ -63,7 +65,8 @@ static void nothing(void)
 
 static void report(void)
 {
-    static const struct taken *const all[] = {&fresh_map, &count, &read_chunk, &write_chunk, &walk_feed};
+    static const struct taken *const all[] = {&fresh_map,   &count,     &read_chunk,
+                                              &write_chunk, &walk_feed, &paint_symbol};
     for (size_t k = 0; k < sizeof all / sizeof *all; k++)
         if (all[k]->bytes > 0)
             printf("%s: %zu bytes of stack\n", all[k]->name, all[k]->bytes - empty.bytes);
@@ -79,13 +82,14 @@ __attribute__((constructor)) static void begin(void)
     atexit(report);
 }
 
-/* ---- the five functions: the real one, its call, and what stands in for it ---- */
+/* ---- the six functions: the real one, its call, and what stands in for it ---- */
 
 Answer __real_seatboard_fresh_map(Size, uint16_t *, size_t);
 struct seatboard_count __real_seatboard_count(Size, const uint16_t *, size_t);
 Answer __real_seatboard_read_chunk(Size, const uint8_t *, size_t, uint8_t *, size_t, uint16_t *, size_t);
 Answer __real_seatboard_write_chunk(Size, const uint8_t *, size_t, const uint8_t *, size_t, uint8_t *, size_t);
 Answer __real_seatboard_walk_feed(const uint8_t *, size_t, uint8_t *, size_t, uint16_t *, size_t);
+Answer __real_seatboard_paint_symbol(Size, uint8_t *, size_t, const uint8_t *, size_t, size_t, int16_t, int16_t);
 
 static void call_fresh_map(void)
 {
@@ -115,6 +119,13 @@ static void call_walk_feed(void)
 {
     const struct lent *l = &lent;
     lent.answer = __real_seatboard_walk_feed(l->in, l->in_length, l->out, l->out_length, l->map, l->map_length);
+}
+
+static void call_paint_symbol(void)
+{
+    const struct lent *l = &lent;
+    lent.answer = __real_seatboard_paint_symbol(l->size, l->out, l->out_length, l->in, l->in_length, l->frame, l->left,
+                                                l->top);
 }
 
 Answer __wrap_seatboard_fresh_map(Size size, uint16_t *map, size_t map_length)
@@ -155,5 +166,14 @@ Answer __wrap_seatboard_walk_feed(const uint8_t *feed, size_t length, uint8_t *p
     lent = (struct lent){.in = feed, .in_length = length, .out = picture, .out_length = pixels,
                          .map = map, .map_length = blocks};
     on_paint(&walk_feed, call_walk_feed);
+    return lent.answer;
+}
+
+Answer __wrap_seatboard_paint_symbol(Size size, uint8_t *picture, size_t pixels, const uint8_t *file, size_t length,
+                                     size_t frame, int16_t left, int16_t top)
+{
+    lent = (struct lent){.size = size, .in = file, .in_length = length, .out = picture, .out_length = pixels,
+                         .frame = frame, .left = left, .top = top};
+    on_paint(&paint_symbol, call_paint_symbol);
     return lent.answer;
 }

@@ -48,6 +48,16 @@ extern "C" {
         map: *mut u16,
         map_length: usize,
     ) -> Answer;
+    fn seatboard_paint_symbol(
+        size: Size,
+        picture: *mut u8,
+        picture_length: usize,
+        file: *const u8,
+        file_length: usize,
+        frame: usize,
+        left: i16,
+        top: i16,
+    ) -> Answer;
 }
 
 // Every call below is sound for one reason. Each pointer and length are those of one slice that is
@@ -104,6 +114,29 @@ pub fn walk_feed(feed: &[u8], picture: &mut [u8], map: &mut [u16]) -> Answer {
             picture.len(),
             map.as_mut_ptr(),
             map.len(),
+        )
+    }
+}
+
+pub fn paint_symbol(
+    size: Size,
+    picture: &mut [u8],
+    file: &[u8],
+    frame: usize,
+    left: i16,
+    top: i16,
+) -> Answer {
+    // SAFETY: as above.
+    unsafe {
+        seatboard_paint_symbol(
+            size,
+            picture.as_mut_ptr(),
+            picture.len(),
+            file.as_ptr(),
+            file.len(),
+            frame,
+            left,
+            top,
         )
     }
 }

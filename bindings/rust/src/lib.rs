@@ -1,5 +1,6 @@
 //! The proved picture codec of the seat boards, for Rust programs: SMC chunks read and written, the
-//! map that says which blocks of a picture can be trusted, and the walk of the house feed.
+//! map that says which blocks of a picture can be trusted, the walk of the house feed, and seat
+//! symbols painted on a shown picture.
 //!
 //! Slices in, a [`Result`] out, nothing `unsafe` for the caller, no allocation, no panic. Any bytes
 //! and any lengths may be lent. A refused call leaves all that it was lent as it was, but for a
@@ -114,11 +115,24 @@ pub enum Reason {
     FeedCut = 13,
     /// The output is shorter than the chunk.
     OutputShort = 14,
+    /// The symbol file's head or offset table is cut short, or it is of another version.
+    BadSprite = 15,
+    /// The frame number is not below the file's count.
+    NoSuchFrame = 16,
+    /// Fewer than 10 bytes from the frame's offset, or one of its first two words not zero.
+    BadFrame = 17,
+    /// A row head cut short, of another code, counting under 4, past the height or past the bytes.
+    BadRow = 18,
+    /// A segment of another code, past its row's count or past the width, or a byte of the row left
+    /// over.
+    BadSegment = 19,
+    /// The rows are done, and the next two bytes are not 05 00.
+    NoEndMarker = 20,
 }
 
 impl Reason {
     /// In the order of their numbers, from 1.
-    pub const ALL: [Reason; 14] = [
+    pub const ALL: [Reason; 20] = [
         Reason::BadSize,
         Reason::BadLength,
         Reason::ChunkShort,
@@ -133,6 +147,12 @@ impl Reason {
         Reason::BadVarint,
         Reason::FeedCut,
         Reason::OutputShort,
+        Reason::BadSprite,
+        Reason::NoSuchFrame,
+        Reason::BadFrame,
+        Reason::BadRow,
+        Reason::BadSegment,
+        Reason::NoEndMarker,
     ];
 
     pub const fn number(self) -> u8 {
@@ -157,6 +177,12 @@ impl Display for Reason {
             Reason::BadVarint => "feed number badly formed",
             Reason::FeedCut => "feed ends inside a number or a chunk",
             Reason::OutputShort => "output too short",
+            Reason::BadSprite => "head or offset table cut short, or another version",
+            Reason::NoSuchFrame => "frame number not below the count",
+            Reason::BadFrame => "frame head cut short, or its first two words not zero",
+            Reason::BadRow => "bad row head, or a row past the height or past the bytes",
+            Reason::BadSegment => "segment of another code, past its row or past the width",
+            Reason::NoEndMarker => "rows done, and no end marker follows",
         })
     }
 }
@@ -207,6 +233,23 @@ pub fn write_chunk(
 /// nothing and does not end the walk.
 pub fn walk_feed(feed: &[u8], picture: &mut [u8], map: &mut [u16]) -> Result<Accepted, Refused> {
     accepted(exact::walk_feed(feed, picture, map))
+}
+
+/// Paints a frame of an SPR# file on a shown picture, its upper left pixel at column `left`, row
+/// `top`: checked whole before anything is painted. Pixels off the picture are dropped, and
+/// background leaves the picture's pixel.
+///
+/// The map does not learn of it, and chunks copy from the picture that they are read over. So copy
+/// the held picture first and paint on the copy.
+pub fn paint_symbol(
+    size: Size,
+    picture: &mut [u8],
+    file: &[u8],
+    frame: usize,
+    left: i16,
+    top: i16,
+) -> Result<(), Refused> {
+    accepted(exact::paint_symbol(size, picture, file, frame, left, top)).map(|_| ())
 }
 
 fn accepted(exact::Answer { number, place }: exact::Answer) -> Result<Accepted, Refused> {

@@ -109,10 +109,65 @@ fn the_longest_chunk_has_room() {
     assert_eq!(written.map(|accepted| accepted.length), Ok(output.len()));
 }
 
+/// A dot of colour 7 in the middle of three rows, highest byte first; the frame stands at 16, its
+/// rows at 26.
+#[rustfmt::skip]
+const DOT: [u8; 38] = [
+    0, 0, 1, 0xF6, 0, 0, 0, 1, 0, 0, 0, 0, 0, 0, 0, 16,
+    0, 0, 0, 0, 0, 3, 0, 3, 0, 0,
+    9, 1, 4, 8, 1, 1, 2, 1, 7, 7, 9, 1,
+];
+
+/// The dot with its end marker, and this byte in the place of another.
+fn dot_with(place: usize, byte: u8) -> Vec<u8> {
+    let mut file = [&DOT[..], &[5, 0]].concat();
+    file[place] = byte;
+    file
+}
+
+#[test]
+fn a_symbol_is_painted_where_it_is_put() {
+    let mut picture = [0; 32];
+    let file = dot_with(0, 0);
+    for (left, top) in [(-1, -1), (6, 2), (7, 0), (-2, 0)] {
+        seatboard::paint_symbol(SIZE, &mut picture, &file, 0, left, top).expect("accepted");
+    }
+    let mut expected = [0; 32];
+    expected[0] = 7;
+    expected[31] = 7;
+    assert_eq!(picture, expected);
+}
+
+#[test]
+fn symbols_are_refused_by_their_numbers() {
+    let cases = [
+        (DOT[..15].to_vec(), 0, Reason::BadSprite),
+        (dot_with(3, 0xFA), 0, Reason::BadSprite),
+        (dot_with(0, 0), 1, Reason::NoSuchFrame),
+        (dot_with(15, 31), 0, Reason::BadFrame),
+        (dot_with(19, 1), 0, Reason::BadFrame),
+        (dot_with(27, 4), 0, Reason::BadRow),
+        (dot_with(28, 5), 0, Reason::BadRow),
+        (dot_with(30, 4), 0, Reason::BadSegment),
+        (dot_with(33, 3), 0, Reason::BadSegment),
+        (dot_with(39, 1), 0, Reason::NoEndMarker),
+        (DOT.to_vec(), 0, Reason::NoEndMarker),
+    ];
+    let mut picture = [0; 32];
+    for (file, frame, reason) in cases {
+        let answer = seatboard::paint_symbol(SIZE, &mut picture, &file, frame, 0, 0);
+        assert_eq!((refused(answer), picture), ((reason, 0), [0; 32]));
+    }
+    let answer = seatboard::paint_symbol(WRONG, &mut picture, &[], 0, 0, 0);
+    assert_eq!(refused(answer), (Reason::BadSize, 0));
+    let answer = seatboard::paint_symbol(LONE, &mut picture, &[], 0, 0, 0);
+    assert_eq!(refused(answer), (Reason::BadLength, 0));
+}
+
 #[test]
 fn reasons_are_in_the_order_of_their_numbers() {
     let numbers: Vec<u8> = Reason::ALL.iter().map(|reason| reason.number()).collect();
-    assert_eq!(numbers, Vec::from_iter(1..=14));
+    assert_eq!(numbers, Vec::from_iter(1..=20));
 }
 
 #[test]

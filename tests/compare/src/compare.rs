@@ -1,5 +1,5 @@
-//! The same call to the library under test and to the second reader, walk or writer, and what
-//! differs.
+//! The same call to the library under test and to the second reader, walk, writer or painter, and
+//! what differs.
 
 use std::fmt::{Debug, Display};
 use std::hint::black_box;
@@ -7,12 +7,14 @@ use std::hint::black_box;
 use seatboard::exact::{self, Answer, Count};
 use seatboard::Size;
 use second::reader::{self, pixel_blocks, Refusal, Step};
+use second::sprite::{self, Frame};
 use second::walk::{self, Walk};
 use second::writer::{self, Chunk};
 
 use crate::feeds::FeedCase;
 use crate::generate::{Board, Case, SETTLED};
 use crate::pictures::WriteCase;
+use crate::symbols::{Placed, SymbolCase};
 
 /// One of the two that are compared.
 pub struct Codec {
@@ -22,6 +24,8 @@ pub struct Codec {
     pub walk_feed: fn(&[u8], &mut [u8], &mut [u16]) -> Answer,
     /// Old picture, new picture, output: the pictures too, so that a change of them is found.
     pub write_chunk: fn(Size, &mut [u8], &mut [u8], &mut [u8]) -> Answer,
+    /// Picture, file: the file too, so that a change of it is found.
+    pub paint_symbol: fn(Size, &mut [u8], &mut [u8], Placed) -> Answer,
 }
 
 pub const LIBRARY: Codec = Codec {
@@ -37,6 +41,11 @@ pub const LIBRARY: Codec = Codec {
         let answer = exact::write_chunk(size, old, new, output);
         perhaps_changed(old);
         perhaps_changed(new);
+        answer
+    },
+    paint_symbol: |size, picture, file, Placed { frame, left, top }| {
+        let answer = exact::paint_symbol(size, picture, file, frame, left, top);
+        perhaps_changed(file);
         answer
     },
 };
@@ -65,6 +74,9 @@ pub const SECOND: Codec = Codec {
         let written = writer::write_chunk((size.width, size.height), old, new, output);
         write_answer(&written)
     },
+    paint_symbol: |size, picture, file, placed| {
+        symbol_answer(&second_painting(size, picture, file, placed))
+    },
 };
 
 /// 01: an accepted chunk's place is the length used; for fresh maps and counts it is 0.
@@ -85,6 +97,22 @@ fn walk_answer(walk: &Walk) -> Answer {
 fn write_answer(written: &Result<Chunk, Refusal>) -> Answer {
     let length = written.as_ref().map_or(0, |chunk| chunk.bytes.len());
     answer(written, length)
+}
+
+fn second_painting(
+    size: Size,
+    picture: &mut [u8],
+    file: &[u8],
+    Placed { frame, left, top }: Placed,
+) -> Result<Frame, sprite::Refusal> {
+    let size = (size.width, size.height);
+    sprite::paint_symbol(size, picture, file, frame, (left, top))
+}
+
+/// 01: a number added later returns place 0, and so does 0 from an operation added later.
+fn symbol_answer(painted: &Result<Frame, sprite::Refusal>) -> Answer {
+    let number = painted.as_ref().err().map_or(0, |refusal| refusal.number());
+    Answer { number, place: 0 }
 }
 
 /// What a call answered, and what it left in the buffers lent to it.
@@ -147,6 +175,35 @@ impl Writing {
             self.old.difference(&other.old, "old pixel", names),
             self.new.difference(&other.new, "new pixel", names),
             self.output.difference(&other.output, "output byte", names),
+        ];
+        differences([&self.answer, &other.answer], buffers, names)
+    }
+}
+
+/// What painting a symbol answered, and what it left in the picture and the file lent to it.
+pub struct Painting {
+    answer: Answer,
+    picture: Lent<u8>,
+    file: Lent<u8>,
+}
+
+impl Painting {
+    /// Calls with copies of the case's buffers.
+    pub fn of(case: &SymbolCase, call: impl FnOnce(&mut [u8], &mut [u8]) -> Answer) -> Self {
+        let mut picture = Lent::new(&case.picture, 0xA5);
+        let mut file = Lent::new(&case.file, 0xA5);
+        let answer = call(picture.contents(), file.contents());
+        Painting {
+            answer,
+            picture,
+            file,
+        }
+    }
+
+    pub fn differences(&self, other: &Self, names: [&str; 2]) -> Vec<String> {
+        let buffers = [
+            self.picture.difference(&other.picture, "pixel", names),
+            self.file.difference(&other.file, "file's byte", names),
         ];
         differences([&self.answer, &other.answer], buffers, names)
     }
@@ -316,6 +373,30 @@ fn read_back(case: &WriteCase, chunk: &[u8]) -> Vec<String> {
         back(SECOND, "read back by the second reader"),
     ]
     .concat()
+}
+
+/// The differences between the two on one symbol, with the second painter's own reading of it.
+pub struct SymbolComparison {
+    pub differences: Vec<String>,
+    pub answer: Answer,
+    pub painted: Result<Frame, sprite::Refusal>,
+}
+
+pub fn paint_symbol(case: &SymbolCase) -> SymbolComparison {
+    let SymbolCase { size, placed, .. } = *case;
+    let ours = Painting::of(case, |picture, file| {
+        (LIBRARY.paint_symbol)(size, picture, file, placed)
+    });
+    let mut painted = None;
+    let theirs = Painting::of(case, |picture, file| {
+        let painting = second_painting(size, picture, file, placed);
+        symbol_answer(painted.insert(painting))
+    });
+    SymbolComparison {
+        differences: ours.differences(&theirs, ["ours", "second painter's"]),
+        answer: theirs.answer,
+        painted: painted.expect("the second painter was called"),
+    }
 }
 
 /// The differences in a fresh map and in a count, with the second reader's number for both.

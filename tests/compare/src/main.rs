@@ -1,29 +1,31 @@
-//! Compares the library under test with an independent second reader and writer of SMC chunks and
-//! a second walk of the house feed, and the board program with a second listing; and tries demand 3
-//! on two boards.
+//! Compares the library under test with an independent second reader and writer of SMC chunks, a
+//! second walk of the house feed and a second painter of symbols, and the board program with a
+//! second listing; and tries demand 3 on two boards.
 //!
 //! The library is called through the package `seatboard`; the second ones are the package `second`.
 //! generate.rs makes boards and chunks, feeds.rs feeds of them, pictures.rs pairs of pictures to
-//! write, right and wrong; compare.rs gives each to both and compares the answer and all that was
-//! lent; tally.rs, feed_tally.rs and write_tally.rs count what they had in them; examples.rs,
-//! feed_examples.rs and write_examples.rs try both on paper 01's examples and on others made by
-//! hand. Each chunk written is read back by both readers. program.rs runs the board program, on the
-//! cases of program_cases.rs and on random feeds (listings.rs). sequences.rs makes sequences of
-//! calls, and two_boards.rs runs them.
+//! write, symbols.rs symbols to paint from the files of sprites.rs, right and wrong; compare.rs
+//! gives each to both and compares the answer and all that was lent; tally.rs, feed_tally.rs,
+//! write_tally.rs and symbol_tally.rs count what they had in them; examples.rs, feed_examples.rs,
+//! write_examples.rs and symbol_examples.rs try both on paper 01's examples and on others made by
+//! hand, and drawings.rs on the symbols in examples/. Each chunk written is read back by both
+//! readers. program.rs runs the board program, on the cases of program_cases.rs and on random feeds
+//! (listings.rs). sequences.rs makes sequences of calls, and two_boards.rs runs them.
 //!
 //! From the repository's root, with the library in target/lib or in $SEATBOARD_LIB and the board
 //! program as target/bin/board or $SEATBOARD_BOARD:
 //!
 //! ```text
 //! cargo run --quiet --release --locked --offline --package compare -- [--seed N] [--chunks N]
-//!     [--feeds N] [--case N | --feed N | --write N | --listing N | --sequence N]
+//!     [--feeds N] [--case N | --feed N | --write N | --symbol N | --listing N | --sequence N]
 //! ```
 //!
-//! `--case N`, `--feed N`, `--write N`, `--listing N` and `--sequence N` replay one chunk, feed,
-//! write, listing or sequence of that seed and print all of it. Each check prints `ok NAME` or
-//! `FAILED NAME: why`; the last line is `N passed, M failed`.
+//! `--case N`, `--feed N`, `--write N`, `--symbol N`, `--listing N` and `--sequence N` replay one
+//! chunk, feed, write, symbol, listing or sequence of that seed and print all of it. Each check
+//! prints `ok NAME` or `FAILED NAME: why`; the last line is `N passed, M failed`.
 
 mod compare;
+mod drawings;
 mod examples;
 mod feed_examples;
 mod feed_tally;
@@ -37,6 +39,10 @@ mod random;
 mod replay;
 mod report;
 mod sequences;
+mod sprites;
+mod symbol_examples;
+mod symbol_tally;
+mod symbols;
 mod tally;
 mod two_boards;
 mod write_examples;
@@ -52,15 +58,19 @@ use feeds::FeedCase;
 use generate::{Board, Case};
 use pictures::WriteCase;
 use replay::{
-    board_in_short, case_in_short, feed_in_short, sequence_in_short, write_in_short, Replay,
+    board_in_short, case_in_short, feed_in_short, sequence_in_short, symbol_in_short,
+    write_in_short, Replay,
 };
 use report::{compare_each, Report};
 use sequences::Sequence;
+use symbol_tally::SymbolTally;
+use symbols::SymbolCase;
 use tally::{Numbers, Tally, Things};
 use write_tally::WriteTally;
 
 const BOARDS: u64 = 20_000;
 const WRITES: u64 = 40_000;
+const SYMBOLS: u64 = 40_000;
 const SEQUENCES: u64 = 20_000;
 /// How often a thing must occur for the comparison to count as having tried it.
 const ENOUGH: usize = 100;
@@ -79,8 +89,8 @@ fn main() -> ExitCode {
         Ok(options) => options,
         Err(why) => {
             eprintln!(
-                "{why}; known are --seed, --chunks, --feeds, --case, --feed, --write, --listing and \
-                 --sequence"
+                "{why}; known are --seed, --chunks, --feeds, --case, --feed, --write, --symbol, \
+                 --listing and --sequence"
             );
             return ExitCode::from(2);
         }
@@ -95,14 +105,15 @@ fn main() -> ExitCode {
         ..
     } = options;
     println!(
-        "seed {seed}, {chunks} chunks, {BOARDS} maps, {feeds} feeds, {WRITES} writes, {} listings, \
-         {SEQUENCES} sequences on two boards",
+        "seed {seed}, {chunks} chunks, {BOARDS} maps, {feeds} feeds, {WRITES} writes, \
+         {SYMBOLS} symbols, {} listings, {SEQUENCES} sequences on two boards",
         listings::FEEDS
     );
     let mut report = Report::default();
     check_reading(&options, &mut report);
     check_walks(&options, &mut report);
     check_writes(seed, &mut report);
+    check_symbols(seed, &mut report);
     check_program(seed, &mut report);
     check_two_boards(seed, &mut report);
     println!("{} passed, {} failed", report.passed, report.failed);
@@ -190,6 +201,26 @@ fn check_writes(seed: u64, report: &mut Report) {
     report.check_counts("long writes", 1, tally.long_counts());
 }
 
+fn check_symbols(seed: u64, report: &mut Report) {
+    for (name, codec) in [("second painter", &SECOND), ("library", &LIBRARY)] {
+        let examples = symbol_examples::check(codec);
+        report.check(&format!("{name}: symbols made by hand"), examples);
+        let drawings = drawings::check(codec);
+        report.check(&format!("{name}: examples/symbols"), drawings);
+    }
+
+    let mut tally = SymbolTally::default();
+    let cases = (0..SYMBOLS).map(|number| symbols::case(seed, number));
+    let compared = compare_symbols(&format!("seed {seed}, symbol"), cases, &mut tally);
+    report.check("symbols compared", compared);
+    report.check_counts("symbols: every number", ENOUGH, tally.number_counts());
+    report.check_counts("symbols: every fault", ENOUGH, tally.fault_counts());
+    report.check_counts("symbols: orders", ENOUGH, tally.order_counts());
+    report.check_counts("symbols: files", ENOUGH, tally.file_counts());
+    report.check_counts("symbols: rows and segments", ENOUGH, tally.part_counts());
+    report.check_counts("symbols: places", ENOUGH, tally.place_counts());
+}
+
 fn check_program(seed: u64, report: &mut Report) {
     let cases = listings::check_cases();
     report.check("board program: cases written from 01", cases);
@@ -231,6 +262,7 @@ fn options() -> Result<Options, String> {
             "--case" => options.replay = Some(Replay::Case(value)),
             "--feed" => options.replay = Some(Replay::Feed(value)),
             "--write" => options.replay = Some(Replay::Write(value)),
+            "--symbol" => options.replay = Some(Replay::Symbol(value)),
             "--listing" => options.replay = Some(Replay::Listing(value)),
             "--sequence" => options.replay = Some(Replay::Sequence(value)),
             _ => return Err(format!("{name} is not known")),
@@ -296,4 +328,17 @@ fn compare_writes(
         compared.differences
     };
     compare_each(name, cases, differences, write_in_short)
+}
+
+fn compare_symbols(
+    name: &str,
+    cases: impl IntoIterator<Item = SymbolCase>,
+    tally: &mut SymbolTally,
+) -> Result<(), String> {
+    let differences = |case: &SymbolCase| {
+        let compared = compare::paint_symbol(case);
+        tally.add(case, &compared);
+        compared.differences
+    };
+    compare_each(name, cases, differences, symbol_in_short)
 }

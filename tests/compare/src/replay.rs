@@ -1,4 +1,4 @@
-//! One chunk, feed, write, listing or sequence of a run again, with all of it printed.
+//! One chunk, feed, write, symbol, listing or sequence of a run again, with all of it printed.
 
 use std::process::ExitCode;
 
@@ -11,6 +11,7 @@ use crate::generate::{self, Board, Case};
 use crate::pictures::{self, WriteCase};
 use crate::program::{self, Handed};
 use crate::sequences::{self, Call, Sequence};
+use crate::symbols::{self, SymbolCase};
 use crate::two_boards;
 
 #[derive(Clone, Copy)]
@@ -18,6 +19,7 @@ pub enum Replay {
     Case(u64),
     Feed(u64),
     Write(u64),
+    Symbol(u64),
     Listing(u64),
     Sequence(u64),
 }
@@ -28,6 +30,7 @@ impl Replay {
             Replay::Case(number) => chunk(seed, number),
             Replay::Feed(number) => feed(seed, number),
             Replay::Write(number) => write(seed, number),
+            Replay::Symbol(number) => symbol(seed, number),
             Replay::Listing(number) => listing(seed, number),
             Replay::Sequence(number) => sequence(seed, number),
         };
@@ -73,6 +76,20 @@ fn write(seed: u64, number: u64) -> Vec<String> {
         println!("second writer's chunk {:02X?}", chunk.bytes);
     }
     println!("second writer's {:?}", compared.answer);
+    compared.differences
+}
+
+fn symbol(seed: u64, number: u64) -> Vec<String> {
+    let case = symbols::case(seed, number);
+    let short = symbol_in_short(&case);
+    println!("seed {seed}, symbol {number}: {short}");
+    println!("picture {:?}", case.picture);
+    println!("file {:02X?}", case.file);
+    let compared = compare::paint_symbol(&case);
+    if let Err(refusal) = compared.painted {
+        println!("second painter's {refusal:?}");
+    }
+    println!("second painter's {:?}", compared.answer);
     compared.differences
 }
 
@@ -135,12 +152,21 @@ pub fn write_in_short(WriteCase { board, new, output }: &WriteCase) -> String {
     )
 }
 
+pub fn symbol_in_short(case: &SymbolCase) -> String {
+    let Size { width, height } = case.size;
+    let (pixels, file) = (case.picture.len(), bytes_in_short(&case.file));
+    format!(
+        "{width}x{height}, {pixels} pixels lent, {:?}, file {file}",
+        case.placed
+    )
+}
+
 pub fn sequence_in_short(sequence: &Sequence) -> String {
     let Size { width, height } = sequence.size;
     format!("{width}x{height}, {} calls", sequence.calls.len())
 }
 
-fn bytes_in_short(bytes: &[u8]) -> String {
+pub fn bytes_in_short(bytes: &[u8]) -> String {
     if bytes.len() > SHORT {
         return format!("of {} bytes", bytes.len());
     }

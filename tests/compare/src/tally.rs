@@ -8,7 +8,7 @@ use crate::generate::Case;
 
 /// How many calls got each number.
 #[derive(Default)]
-pub struct Numbers([usize; 15]);
+pub struct Numbers([usize; 1 + Reason::ALL.len()]);
 
 impl Numbers {
     pub fn add(&mut self, number: u8) {
