@@ -1,11 +1,10 @@
 -- Proved examples of symbols: one table and one statement. `seven` are a valid frame and one refusal of each of 15 to 20; `further` pin what
 -- those leave free. Bytes are hex; pictures are 4x4 unless said otherwise. Assumes nothing.
-use Prim.Native.Nat.{ℕ, _+_, _*_}
+use Prim.Native.Nat.{ℕ}
 use mathlib.Core.Path.{_≡_, refl}
 use mathlib.Core.List.{List, [], _∷_, _++_}
 use mathlib.Core.Bool.{Bool, true, _&&_}
 use lib.IntN.{ℤ, pos, negsuc}
-use lib.ListN.{length}
 use Rattle.spec.specs.Basics.{if, fuelled, from, same}
 use Rattle.spec.specs.Answers.{answer, checked}
 use Rattle.spec.specs.Sizes as Sizes
@@ -99,6 +98,7 @@ further =
     ∷ refuses (headed (0xFA ∷ 0x01 ∷ 0x00 ∷ 0x00 ∷ []) (frame 1 1 dot)) 15
     ∷ refuses (headed (0xF5 ∷ 0x01 ∷ 0x00 ∷ 0x00 ∷ []) (frame 1 1 dot)) 15
     ∷ refuses (headed (0xF6 ∷ 0x01 ∷ 0x01 ∷ 0x00 ∷ []) (frame 1 1 dot)) 15
+    ∷ refuses (headed (0xF6 ∷ 0x00 ∷ 0x01 ∷ 0x00 ∷ []) (frame 1 1 dot)) 15
     ∷ refuses (headed (0xF6 ∷ 0x01 ∷ 0x00 ∷ 0x01 ∷ []) (frame 1 1 dot)) 15
     -- a file without bytes, with one, with a head that is cut short, and with an offset table that is; a file of no frames is whole
     ∷ refuses [] 15
@@ -132,6 +132,7 @@ further =
     ∷ refuses (file (frame 1 1 (0x03 ∷ 0x04 ∷ 0x01 ∷ 0x01 ∷ 0x05 ∷ 0x00 ∷ []))) 18
     ∷ accepts (frame 3 1 (0x09 ∷ 0x03 ∷ 0x05 ∷ 0x00 ∷ [])) (of 16 9)
     ∷ refuses (file (frame 3 1 (0x09 ∷ 0x04 ∷ 0x05 ∷ 0x00 ∷ []))) 18
+    ∷ refuses (file (frame 3 1 (0x09 ∷ 0x02 ∷ 0x09 ∷ 0x02 ∷ 0x05 ∷ 0x00 ∷ []))) 18
     ∷ refuses (file (frame 1 3 (0x04 ∷ 0x05 ∷ 0x01 ∷ 0x01 ∷ []))) 18
     ∷ refuses (file (frame 1 3 (0x04 ∷ 0x04 ∷ 0x01 ∷ 0x01 ∷ []))) 20
     -- 18 is found before 19 in the row's own bytes, and 19 before an 18 that follows
@@ -166,6 +167,7 @@ further =
     ∷ shows (file valid) (pos 2) (pos 0) (of 6 9 ++ 0x11 ∷ 0x12 ∷ of 3 9 ++ 0x15 ∷ of 4 9)
     ∷ shows (file valid) (pos 0) (negsuc 1) (9 ∷ 0x15 ∷ 0x15 ∷ of 13 9)
     ∷ shows (file valid) (pos 0) (pos 2) (of 12 9 ++ 0x11 ∷ 0x12 ∷ 0x13 ∷ 9 ∷ [])
+    ∷ shows (file (frame 1 1 dot)) (pos 2) (pos 1) (of 6 9 ++ 0x11 ∷ of 9 9)
     -- off the picture, just beside it and at the ends of what a position can be
     ∷ shows (file valid) (negsuc 2) (pos 0) (of 16 9)
     ∷ shows (file valid) (pos 4) (pos 0) (of 16 9)

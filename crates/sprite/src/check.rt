@@ -1,17 +1,13 @@
 // The check pass: it decides the answer for a frame, and writes nothing. Here s is the file.
-use crate::bytes;
 use crate::files;
 use crate::heads;
 use crate::heads::RowHead;
 use crate::heads::Segment;
 use spec::Answer;
 ghost use mathlib.Core.Path.{_≡_};
-ghost use Prim.Native.Nat.{_^_, _≤_, _<_};
+ghost use Prim.Native.Nat.{_≤_};
 ghost use lib.ListN.{length};
 ghost use Rattle.sprite.specs.Frames.{row, marker, rows, frame};
-
-// The first byte of the end marker; its second is zero.
-const END: usize = 5;
 
 // 19 or 0 for the segments of a row with data, from s[at] up to s[end].
 fn check_row(s: &[u8], width: usize, at: usize, end: usize) -> u8
@@ -41,10 +37,10 @@ fn check_marker(s: &[u8], at: usize) -> u8
     if s.len() - at < 2 {
         return Answer::NO_END_MARKER;
     }
-    if bytes::byte(s, at) != END {
+    if s[at] != RowHead::END {
         return Answer::NO_END_MARKER;
     }
-    if bytes::byte(s, at + 1) != 0 {
+    if s[at + 1] != 0 {
         return Answer::NO_END_MARKER;
     }
     Answer::OK

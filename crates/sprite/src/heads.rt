@@ -18,7 +18,7 @@ pub enum RowHead {
     Data(usize),
 }
 
-// The codes. specs/Frames.antt has the same names for the definitions.
+// The codes. specs/Frames.antt has them as `clearCode` and so on.
 impl Segment {
     pub const CLEAR: u8 = 1;
 
@@ -29,6 +29,8 @@ impl Segment {
 
 impl RowHead {
     pub const DATA: u8 = 4;
+    // of the marker after the rows; its second byte is zero
+    pub const END: u8 = 5;
 
     pub const BLANK: u8 = 9;
 }

@@ -214,7 +214,7 @@ fn from_least(n: i16) -> usize
     ensures { λ r. ⌜ r ≡ fromLeast n ⌝ }
     ensures { λ r. ⌜ r < 2 ^ 16 ⌝ }
 {
-    (n as i64 + 32768) as usize
+    (n as i64 + ORIGIN as i64) as usize
 }
 
 // Frame k, which the check pass has accepted, with its upper left pixel at column `left` and row `top` of the picture.

@@ -2,9 +2,6 @@ use Rattle.sprite.proofs.Positions.{narrow}
 use borrow.Author.Needs.{needs}
 use Rattle.seatboard.proofs.seatboard_paint_symbol.Statement.{statement}
 use Rattle.seatboard.proofs.seatboard_paint_symbol.Tie as tie
-use Rattle.seatboard.proofs.seatboard_paint_symbol.Reads as reads
-use Rattle.seatboard.proofs.seatboard_paint_symbol.Lts as lts
-use Rattle.sprite.proofs.paint_symbol.Reads as paint-symbol-reads
 
 paint-symbol-requires : tie.Need-paint-symbol-requires
 paint-symbol-requires c κs = search needs
