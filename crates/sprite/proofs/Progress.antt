@@ -19,14 +19,14 @@ pub record InRow (s : List ℕ) (width first end x next : ℕ) (made : List Shad
   pub place : next ≤ end
   pub same : row s width first end ≡ rowFrom s width end (reading next made)
 
-module _ (s : List ℕ) (width first end : ℕ) where
+module _ {s : List ℕ} {width first end : ℕ} where
   pub row-begins : first ≤ end → InRow s width first end 0 first []
   row-begins h = record { size = refl; fits = omega arith; place = h; same = refl }
 
-  module _ (h : end ≤ length s) (x next : ℕ) (made : List Shade) (k : InRow s width first end x next made) where
-    pub row-goes-on : (n after : ℕ) → next < end → Segment.Pixels n after ≡ segmentAt s end (width - x) next → InRow s width first end (x + n) after (made ++ shades s next)
-    row-goes-on n after l e =
-        let g = stands s end (width - x) next n after (sym e) in
+  module _ {x next : ℕ} {made : List Shade} (h : end ≤ length s) (k : InRow s width first end x next made) where
+    pub row-goes-on : {n after : ℕ} → next < end → Segment.Pixels n after ≡ segmentAt s end (width - x) next → InRow s width first end (x + n) after (made ++ shades s next)
+    row-goes-on {n} {after} l e =
+        let g = stands s end (width - x) next n after e in
         let fits = g .fits in
         let wide = k .fits in
         let a = g .after in
@@ -52,11 +52,11 @@ pub record InFrame (s : List ℕ) (height width first y at : ℕ) (made : List (
   pub place : at ≤ length s
   pub same : rows s height width first ≡ rowsFrom s height width (reading at made)
 
-module _ (s : List ℕ) (height width first : ℕ) where
+module _ {s : List ℕ} {height width first : ℕ} where
   pub frame-begins : first ≤ length s → InFrame s height width first 0 first []
   frame-begins h = record { size = refl; fits = omega arith; place = h; same = refl }
 
-  module _ (y at : ℕ) (made : List (List Shade)) (k : InFrame s height width first y at made) where
+  module _ {y at : ℕ} {made : List (List Shade)} (k : InFrame s height width first y at made) where
     pub frame-ends : height ≤ y → rows s height width first ≡ ended (marker s at) made
     frame-ends l = k .same ∙ rows-done s height width at made (rw (k .size) l)
 
@@ -67,9 +67,9 @@ module _ (s : List ℕ) (height width first : ℕ) where
       pub frame-bad-row : RowHead.Bad ≡ rowAt s (height - y) at → rows s height width first ≡ ended badRow made
       frame-bad-row e = k .same ∙ rows-bad s height width at made more (rw (k .size) (sym e))
 
-      pub frame-blank : (n : ℕ) → RowHead.Blank n ≡ rowAt s (height - y) at → InFrame s height width first (y + n) (at + 2) (made ++ replicate n [])
-      frame-blank n e =
-          let g = is-blank s (height - y) at n (sym e) in
+      pub frame-blank : {n : ℕ} → RowHead.Blank n ≡ rowAt s (height - y) at → InFrame s height width first (y + n) (at + 2) (made ++ replicate n [])
+      frame-blank {n} e =
+          let g = is-blank s (height - y) at n e in
           let fits = g .fits in
           let none : List Shade = [] in
           record {
@@ -79,7 +79,7 @@ module _ (s : List ℕ) (height width first : ℕ) where
             same = k .same ∙ rows-blank s height width at made more n (rw (k .size) (sym e));
           }
 
-      module _ (end : ℕ) (e : RowHead.Data end ≡ rowAt s (height - y) at) where
+      module _ {end : ℕ} (e : RowHead.Data end ≡ rowAt s (height - y) at) where
         there : rowAt s (height - length made) at ≡ RowHead.Data end
         there = rw (k .size) (sym e)
 
@@ -88,7 +88,7 @@ module _ (s : List ℕ) (height width first : ℕ) where
             record {
               size = length-append made (row s width (at + 2) end .made ∷ []) ∙ rw (k .size);
               fits = omega arith;
-              place = is-data s (height - y) at end (sym e) .within;
+              place = is-data s (height - y) at end e .within;
               same = k .same ∙ rows-data s height width at made more end there o;
             }
 

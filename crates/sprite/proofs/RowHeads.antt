@@ -1,6 +1,6 @@
 -- What holds of a row's head, and the equations of a frame's rows. Assumes nothing. Here s are the file's bytes.
 use Prim.Native.Nat.{ℕ, _+_, _-_, _<_, _≤_}
-use mathlib.Core.Path.{_≡_, _∙_, subst}
+use mathlib.Core.Path.{_≡_, sym, _∙_, subst}
 use mathlib.Core.Logic.{_≢_}
 use mathlib.Core.List.{List, [], _∷_, _++_}
 use native.Mathlib.Omega.{arith}
@@ -45,11 +45,11 @@ module _ (s : List ℕ) where
       record { head = h; within = ltb-false _ _ d })))
       (λ t. tt)))
 
-  pub is-blank : (room at n : ℕ) → rowAt s room at ≡ RowHead.Blank n → IsBlank room at n
-  is-blank room at n e = subst (Headed room at) e (headed room at)
+  pub is-blank : (room at n : ℕ) → RowHead.Blank n ≡ rowAt s room at → IsBlank room at n
+  is-blank room at n e = subst (Headed room at) (sym e) (headed room at)
 
-  pub is-data : (room at end : ℕ) → rowAt s room at ≡ RowHead.Data end → IsData at end
-  is-data room at end e = subst (Headed room at) e (headed room at)
+  pub is-data : (room at end : ℕ) → RowHead.Data end ≡ rowAt s room at → IsData at end
+  is-data room at end e = subst (Headed room at) (sym e) (headed room at)
 
   module _ (height width : ℕ) where
     onward-data : (at end : ℕ) (r : Ended Shade) → at < end → end ≤ length s → Onward (length s) at (dataTurn end r)

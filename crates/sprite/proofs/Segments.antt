@@ -1,6 +1,6 @@
 -- What holds of a segment, and the equations of a row. Assumes nothing. Here s are the file's bytes.
 use Prim.Native.Nat.{ℕ, _+_, _-_, _<_, _≤_}
-use mathlib.Core.Path.{_≡_, refl, _∙_, subst}
+use mathlib.Core.Path.{_≡_, refl, sym, _∙_, subst}
 use mathlib.Core.List.{List, _++_}
 use native.Mathlib.Omega.{arith}
 use lib.Dec.{ltb, eqb}
@@ -52,8 +52,8 @@ module _ (s : List ℕ) where
       let l : at < at + size = omega arith in
       record { head = h; count = refl; fits = ltb-false room (countAt s at) e; after = refl; onward = l; within = g }))))
 
-  pub stands : (end room at n next : ℕ) → segmentAt s end room at ≡ Segment.Pixels n next → Stands end room at n next
-  stands end room at n next e = subst (Stood end room at) e (stood end room at)
+  pub stands : (end room at n next : ℕ) → Segment.Pixels n next ≡ segmentAt s end room at → Stands end room at n next
+  stands end room at n next e = subst (Stood end room at) (sym e) (stood end room at)
 
   -- as many shades as it counts pixels
   pub shades-count : (at : ℕ) → at + segmentBytes (codeAt s at) (countAt s at) ≤ length s → length (shades s at) ≡ countAt s at

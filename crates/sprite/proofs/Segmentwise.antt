@@ -13,7 +13,7 @@ use Rattle.spec.specs.Sizes.{pixels}
 use Rattle.spec.proofs.Parts.{part-at, length-part, sets-more}
 use Rattle.sprite.specs.Frames.{background, colour, codeAt, countAt, runCode, copyCode, segmentBytes, shades}
 use Rattle.sprite.specs.Symbols.{overlay}
-use Rattle.sprite.specs.Strips.{origin, strip, hidden, column, seen}
+use Rattle.sprite.specs.Strips.{origin, strip, hidden, column, seen, Clipped, SegmentLent}
 use Rattle.sprite.proofs.Segments.{shades-count, bytes-copy}
 use Rattle.sprite.proofs.Laying.{strip-clear}
 use Rattle.sprite.proofs.Clipping.{least, strip-unseen, strip-stored, strip-room}
@@ -71,7 +71,7 @@ module _ (z : Size) (s : List ℕ) (at left y : ℕ) (pic : List ℕ) (whole : a
   paints-unseen : n ≡ 0 → pic ≡ after
   paints-unseen e = strip-unseen z left y (shades s at) pic exact (rw (shades-count s at whole) e)
 
-  pub paints-clear : codeAt s at ≢ runCode → codeAt s at ≢ copyCode → pic ≡ after
+  paints-clear : codeAt s at ≢ runCode → codeAt s at ≢ copyCode → pic ≡ after
   paints-clear h g = rw (shades-clear s at h g) (strip-clear z left (origin + y) (countAt s at) pic exact)
 
   -- the stores of as many colours as it counts
@@ -101,29 +101,36 @@ module _ (z : Size) (s : List ℕ) (at left y : ℕ) (pic : List ℕ) (whole : a
       let h = strip-room z left y (replicate (countAt s at) 0) pic low exact (rw l some) in
       rw l at h
 
-  -- the same, by the numbers that the code holds
-  module _ (count hd col sn : ℕ) (is : count ≡ countAt s at)
-      (k : (hd ≡ hidden left) × ((col ≡ column left) × (sn ≡ seen (z .width) left count))) where
-    sn-is : sn ≡ n
-    sn-is = k .1 .1 ∙ ap (seen (z .width) left) is
+-- the same, by the numbers that the code holds
+module _ {z : Size} {s : List ℕ} {at count left y hd col sn : ℕ} {pic : List ℕ} (k : SegmentLent z s at count y pic)
+    (e : Clipped (z .width) left count hd col sn) where
+  abbrev painted : List ℕ
+  painted = overlay z (strip left (origin + y) (shades s at)) pic
 
-    some : sn ≢ 0 → 0 < n
-    some h = let e = sn-is in omega (arith, h)
+  sn-is : sn ≡ seen (z .width) left (countAt s at)
+  sn-is = e .seen ∙ ap (seen (z .width) left) (k .counts)
 
-    pub unseen-kept : sn ≡ 0 → pic ≡ after
-    unseen-kept e = paints-unseen (sym sn-is ∙ e)
+  some : sn ≢ 0 → 0 < seen (z .width) left (countAt s at)
+  some h = let q = sn-is in omega (arith, h)
 
-    pub stores-within : sn ≢ 0 → y * z .width + col + sn ≤ length pic
-    stores-within h = rw (k .1 .0, sn-is) (paints-within (some h))
+  pub unseen-kept : sn ≡ 0 → pic ≡ painted
+  unseen-kept q = paints-unseen z s at left y pic (k .whole) (k .low) (k .exact) (sym sn-is ∙ q)
 
-    pub reads-within : sn ≢ 0 → codeAt s at ≡ copyCode → at + 2 + hd + sn ≤ length s
-    reads-within h e =
-        let b = bytes-copy (codeAt s at) (countAt s at) e in
-        let a = among (some h) in
-        rw (k .0, sn-is) (omega arith)
+  pub clear-kept : codeAt s at ≢ runCode → codeAt s at ≢ copyCode → pic ≡ painted
+  clear-kept h g = paints-clear z s at left y pic (k .whole) (k .low) (k .exact) h g
 
-    pub run-painted : (pic′ : List ℕ) → sn ≢ 0 → codeAt s at ≡ runCode → pic′ ≡ sets pic (y * z .width + col) (replicate sn (getD s (at + 2) 0)) → pic′ ≡ after
-    run-painted pic′ h e q = q ∙ rw (k .1 .0, sn-is) (paints-run e (some h))
+  pub stores-within : sn ≢ 0 → y * z .width + col + sn ≤ length pic
+  stores-within h = rw (e .column, sn-is) (paints-within z s at left y pic (k .whole) (k .low) (k .exact) (some h))
 
-    pub copy-painted : (pic′ : List ℕ) → sn ≢ 0 → codeAt s at ≡ copyCode → pic′ ≡ sets pic (y * z .width + col) (part s (at + 2 + hd) sn) → pic′ ≡ after
-    copy-painted pic′ h e q = q ∙ rw (k .0, k .1 .0, sn-is) (paints-copy e (some h))
+  pub reads-within : sn ≢ 0 → codeAt s at ≡ copyCode → at + 2 + hd + sn ≤ length s
+  reads-within h q =
+      let b = bytes-copy (codeAt s at) (countAt s at) q in
+      let a = among z s at left y pic (k .whole) (k .low) (k .exact) (some h) in
+      let w = k .whole in
+      rw (e .hidden, sn-is) (omega arith)
+
+  pub run-painted : (pic′ : List ℕ) → sn ≢ 0 → codeAt s at ≡ runCode → pic′ ≡ sets pic (y * z .width + col) (replicate sn (getD s (at + 2) 0)) → pic′ ≡ painted
+  run-painted pic′ h q g = g ∙ rw (e .column, sn-is) (paints-run z s at left y pic (k .whole) (k .low) (k .exact) q (some h))
+
+  pub copy-painted : (pic′ : List ℕ) → sn ≢ 0 → codeAt s at ≡ copyCode → pic′ ≡ sets pic (y * z .width + col) (part s (at + 2 + hd) sn) → pic′ ≡ painted
+  copy-painted pic′ h q g = g ∙ rw (e .hidden, e .column, sn-is) (paints-copy z s at left y pic (k .whole) (k .low) (k .exact) q (some h))

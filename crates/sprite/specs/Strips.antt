@@ -1,12 +1,16 @@
 -- What the paint pass goes by: a row of a frame, or a part of it, as a strip of shades. Assumes nothing.
 -- Columns and rows that may lie off the picture are counted from -32,768, so that none is below 0: the picture's first is number `origin`.
-use Prim.Native.Nat.{ℕ, suc, _+_, _-_}
+use Prim.Native.Nat.{ℕ, suc, _+_, _-_, _^_, _<_, _≤_}
+use mathlib.Core.Path.{_≡_}
 use mathlib.Core.List.{List, []}
 use lib.Dec.{ltb, eqb}
 use lib.IntN.{ℤ, pos, negsuc}
-use lib.ListN.{getD}
+use lib.ListN.{length, getD}
+use Rattle.spec.specs.declared.Size.{Size}
+use Rattle.spec.specs.Answers.{ok}
 use Rattle.spec.specs.Basics.{if}
-use Rattle.sprite.specs.Frames.{Shade, background}
+use Rattle.spec.specs.Sizes.{pixels}
+use Rattle.sprite.specs.Frames.{Shade, background, codeAt, countAt, segmentBytes, rows}
 
 abbrev pub origin : ℕ
 origin = 32768
@@ -41,3 +45,35 @@ lesser a b = if (ltb a b) a b
 
 abbrev pub seen : ℕ → ℕ → ℕ → ℕ
 seen width left count = lesser (count - hidden left) (width - column left)
+
+-- the code's three numbers for them
+pub record Clipped (width left count hides starts shows : ℕ) : Type 0 where
+  pub hidden : hides ≡ hidden left
+  pub column : starts ≡ column left
+  pub seen : shows ≡ seen width left count
+
+-- What the functions of the paint pass ask for. A segment at s[at] that is whole, of so many pixels, and row y of a picture of the size
+pub record SegmentLent (z : Size) (s : List ℕ) (at count y : ℕ) (pic : List ℕ) : Type 0 where
+  pub head : at + 2 ≤ length s
+  pub whole : at + segmentBytes (codeAt s at) (countAt s at) ≤ length s
+  pub counts : count ≡ countAt s at
+  pub low : y < z .height
+  pub exact : length pic ≡ pixels z
+
+-- segments from s[first] up to s[end], for a row that starts at column `left`, and a picture of the size
+pub record RowLent (z : Size) (s : List ℕ) (width first end left : ℕ) (pic : List ℕ) : Type 0 where
+  pub order : first ≤ end
+  pub within : end ≤ length s
+  pub narrow : width < 2 ^ 16
+  pub near : left < 2 ^ 16
+  pub exact : length pic ≡ pixels z
+
+-- rows from s[first] on that are accepted, for a frame that starts at column `left` and row `top`, and a picture of the size
+pub record FrameLent (z : Size) (s : List ℕ) (height width first left top : ℕ) (pic : List ℕ) : Type 0 where
+  pub start : first ≤ length s
+  pub accepted : rows s height width first .number ≡ ok
+  pub low : height < 2 ^ 16
+  pub narrow : width < 2 ^ 16
+  pub near : left < 2 ^ 16
+  pub high : top < 2 ^ 16
+  pub exact : length pic ≡ pixels z

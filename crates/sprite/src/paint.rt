@@ -13,9 +13,9 @@ ghost use lib.Seq.{sets};
 ghost use Rattle.spec.specs.Answers.{ok};
 ghost use Rattle.spec.specs.Basics.{part};
 ghost use Rattle.spec.specs.Sizes.{pixels};
-ghost use Rattle.sprite.specs.Frames.{countAt, codeAt, segmentBytes, shades, row, rows, frame};
+ghost use Rattle.sprite.specs.Frames.{shades, row, rows, frame};
 ghost use Rattle.sprite.specs.Symbols.{placed, overlay};
-ghost use Rattle.sprite.specs.Strips.{origin, fromLeast, strip, sheet, hidden, column, lesser, seen};
+ghost use Rattle.sprite.specs.Strips.{origin, fromLeast, strip, sheet, lesser, Clipped, SegmentLent, RowLent, FrameLent};
 
 // The picture's first column and row. specs/Strips.antt has it as `origin`.
 const ORIGIN: usize = 32768;
@@ -74,9 +74,7 @@ struct Visible {
 
 // Of `count` pixels from column `left` on.
 fn clip(width: usize, left: usize, count: usize) -> Visible
-    ensures { λ r. ⌜ r .hidden ≡ hidden left ⌝ }
-    ensures { λ r. ⌜ r .column ≡ column left ⌝ }
-    ensures { λ r. ⌜ r .seen ≡ seen width left count ⌝ }
+    ensures { λ r. ⌜ Clipped width left count (r .hidden) (r .column) (r .seen) ⌝ }
 {
     let hidden = less(ORIGIN, left);
     let column = less(left, ORIGIN);
@@ -97,11 +95,7 @@ fn paint_segment(
     y: usize,
     picture: &mut [u8],
 )
-    requires { ⌜ at + 2 ≤ length (now s) ⌝ }
-    requires { ⌜ at + segmentBytes (codeAt (now s) at) (countAt (now s) at) ≤ length (now s) ⌝ }
-    requires { ⌜ count ≡ countAt (now s) at ⌝ }
-    requires { ⌜ y < size .height ⌝ }
-    requires { ⌜ length (now picture) ≡ pixels size ⌝ }
+    requires { ⌜ SegmentLent size (now s) at count y (now picture) ⌝ }
     ensures { λ _. ⌜ now (picture .exit) ≡ overlay size (strip left (origin + y) (shades (now (s .entry)) at)) (now (picture .entry)) ⌝ }
 {
     let visible = clip(size.width, left, count);
@@ -130,12 +124,8 @@ fn paint_row(
     y: usize,
     picture: &mut [u8],
 )
-    requires { ⌜ first ≤ end ⌝ }
-    requires { ⌜ end ≤ length (now s) ⌝ }
-    requires { ⌜ width < 2 ^ 16 ⌝ }
-    requires { ⌜ left < 2 ^ 16 ⌝ }
+    requires { ⌜ RowLent size (now s) width first end left (now picture) ⌝ }
     requires { ⌜ y < size .height ⌝ }
-    requires { ⌜ length (now picture) ≡ pixels size ⌝ }
     ensures { λ _. ⌜ now (picture .exit) ≡ overlay size (strip left (origin + y) (row (now (s .entry)) width first end .made)) (now (picture .entry)) ⌝ }
 {
     let mut x = 0;
@@ -163,11 +153,7 @@ fn paint_line(
     line: usize,
     picture: &mut [u8],
 )
-    requires { ⌜ first ≤ end ⌝ }
-    requires { ⌜ end ≤ length (now s) ⌝ }
-    requires { ⌜ width < 2 ^ 16 ⌝ }
-    requires { ⌜ left < 2 ^ 16 ⌝ }
-    requires { ⌜ length (now picture) ≡ pixels size ⌝ }
+    requires { ⌜ RowLent size (now s) width first end left (now picture) ⌝ }
     ensures { λ _. ⌜ now (picture .exit) ≡ overlay size (strip left line (row (now (s .entry)) width first end .made)) (now (picture .entry)) ⌝ }
 {
     if line < ORIGIN {
@@ -182,13 +168,7 @@ fn paint_line(
 
 // The rows of an accepted frame, from column `left` and row `top` on.
 fn paint_rows(size: Size, s: &[u8], frame: Frame, left: usize, top: usize, picture: &mut [u8])
-    requires { ⌜ frame .first ≤ length (now s) ⌝ }
-    requires { ⌜ rows (now s) (frame .height) (frame .width) (frame .first) .number ≡ ok ⌝ }
-    requires { ⌜ frame .height < 2 ^ 16 ⌝ }
-    requires { ⌜ frame .width < 2 ^ 16 ⌝ }
-    requires { ⌜ left < 2 ^ 16 ⌝ }
-    requires { ⌜ top < 2 ^ 16 ⌝ }
-    requires { ⌜ length (now picture) ≡ pixels size ⌝ }
+    requires { ⌜ FrameLent size (now s) (frame .height) (frame .width) (frame .first) left top (now picture) ⌝ }
     ensures { λ _. ⌜ now (picture .exit) ≡ overlay size (sheet left top (rows (now (s .entry)) (frame .height) (frame .width) (frame .first) .made)) (now (picture .entry)) ⌝ }
 {
     let mut done = 0;

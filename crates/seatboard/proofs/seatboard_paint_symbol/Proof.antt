@@ -1,5 +1,5 @@
-use Rattle.sprite.proofs.Positions.{narrow}
 use borrow.Author.Needs.{needs}
+use Rattle.sprite.proofs.Positions.{narrow}
 use Rattle.seatboard.proofs.seatboard_paint_symbol.Statement.{statement}
 use Rattle.seatboard.proofs.seatboard_paint_symbol.Tie as tie
 

@@ -2,7 +2,6 @@ use mathlib.Core.Path.{sym, _∙_}
 use borrow.Author.Needs.{needs}
 use Rattle.sprite.proofs.Answering.{symbol-refused, exact-picture, frame-kept, frame-shown}
 use Rattle.sprite.proofs.Positions.{narrow}
-use borrow.Author.Needs.{needs}
 use Rattle.sprite.proofs.paint_symbol.Statement.{statement}
 use Rattle.sprite.proofs.paint_symbol.Tie as tie
 

@@ -3,7 +3,6 @@ use native.Mathlib.Omega.{arith}
 use borrow.Author.Needs.{needs}
 use borrow.Author.Tests.{eq-eqb, ne-eqb}
 use Rattle.spec.proofs.Limits.{allowed-size, fault-size, fault-length, fault-none}
-use borrow.Author.Needs.{needs}
 use Rattle.sprite.proofs.picture_fault.Statement.{statement}
 use Rattle.sprite.proofs.picture_fault.Tie as tie
 

@@ -1,6 +1,6 @@
 use native.Mathlib.Omega.{arith}
-use Rattle.spec.proofs.Cases.{cases}
 use borrow.Author.Needs.{needs}
+use Rattle.spec.proofs.Cases.{cases}
 use Rattle.sprite.proofs.bytes.byte.Statement.{statement}
 use Rattle.sprite.proofs.bytes.byte.Tie as tie
 

@@ -1,5 +1,5 @@
-use Rattle.spec.proofs.Cases.{cases}
 use borrow.Author.Needs.{needs}
+use Rattle.spec.proofs.Cases.{cases}
 use Rattle.sprite.proofs.bytes.high_first.Statement.{statement}
 use Rattle.sprite.proofs.bytes.high_first.Tie as tie
 

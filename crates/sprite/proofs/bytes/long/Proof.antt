@@ -1,7 +1,7 @@
 use native.Mathlib.Omega.{arith}
+use borrow.Author.Needs.{needs}
 use Rattle.spec.specs.Basics.{if}
 use Rattle.sprite.specs.Files.{joined}
-use borrow.Author.Needs.{needs}
 use Rattle.sprite.proofs.bytes.long.Statement.{statement}
 use Rattle.sprite.proofs.bytes.long.Tie as tie
 

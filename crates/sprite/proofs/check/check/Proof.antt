@@ -1,10 +1,9 @@
 use mathlib.Core.Path.{sym, ap, _∙_}
 use mathlib.Core.List.{List}
 use native.Mathlib.Omega.{arith}
+use borrow.Author.Needs.{needs}
 use Rattle.sprite.specs.Frames.{Shade, Ended}
-use borrow.Author.Needs.{needs}
 use Rattle.sprite.proofs.Heading.{known, frame-refused, frame-there}
-use borrow.Author.Needs.{needs}
 use Rattle.sprite.proofs.check.check.Statement.{statement}
 use Rattle.sprite.proofs.check.check.Tie as tie
 

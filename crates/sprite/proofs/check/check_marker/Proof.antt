@@ -6,7 +6,6 @@ use borrow.Author.Tests.{le-leb, ne-eqb}
 use Rattle.spec.specs.Basics.{if}
 use Rattle.spec.proofs.Cases.{cases}
 use Rattle.sprite.specs.Frames.{marker}
-use borrow.Author.Needs.{needs}
 use Rattle.sprite.proofs.check.check_marker.Statement.{statement}
 use Rattle.sprite.proofs.check.check_marker.Tie as tie
 

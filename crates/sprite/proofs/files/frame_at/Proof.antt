@@ -1,7 +1,7 @@
 use mathlib.Core.Path.{refl}
 use native.Mathlib.Omega.{arith}
-use Rattle.sprite.proofs.Heading.{known}
 use borrow.Author.Needs.{needs}
+use Rattle.sprite.proofs.Heading.{known}
 use Rattle.sprite.proofs.files.frame_at.Statement.{statement}
 use Rattle.sprite.proofs.files.frame_at.Tie as tie
 

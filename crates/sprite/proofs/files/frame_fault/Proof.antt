@@ -1,10 +1,10 @@
 use mathlib.Core.Path.{sym, _∙_}
-use borrow.Author.Tests.{lt-ltb, le-ltb}
 use native.Mathlib.Omega.{arith}
+use borrow.Author.Tests.{lt-ltb, le-ltb}
+use borrow.Author.Needs.{needs}
 use Rattle.spec.specs.Basics.{if}
 use Rattle.sprite.specs.Files.{frameFault}
 use Rattle.sprite.proofs.Heading.{table-whole}
-use borrow.Author.Needs.{needs}
 use Rattle.sprite.proofs.files.frame_fault.Statement.{statement}
 use Rattle.sprite.proofs.files.frame_fault.Tie as tie
 

@@ -1,6 +1,6 @@
+use borrow.Author.Needs.{needs}
 use Rattle.spec.proofs.Cases.{cases}
 use Rattle.sprite.specs.Files.{isFrame}
-use borrow.Author.Needs.{needs}
 use Rattle.sprite.proofs.files.is_frame.Statement.{statement}
 use Rattle.sprite.proofs.files.is_frame.Tie as tie
 

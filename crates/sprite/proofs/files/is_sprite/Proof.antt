@@ -1,6 +1,6 @@
+use borrow.Author.Needs.{needs}
 use Rattle.spec.proofs.Cases.{cases}
 use Rattle.sprite.specs.Files.{isSprite}
-use borrow.Author.Needs.{needs}
 use Rattle.sprite.proofs.files.is_sprite.Statement.{statement}
 use Rattle.sprite.proofs.files.is_sprite.Tie as tie
 

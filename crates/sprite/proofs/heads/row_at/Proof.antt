@@ -1,10 +1,10 @@
 use Prim.Native.Nat.{_+_, _≤_, _<_}
-use lib.ListN.{length}
 use native.Mathlib.Omega.{arith}
+use lib.ListN.{length}
+use borrow.Author.Needs.{needs}
 use Rattle.spec.specs.Basics.{if}
 use Rattle.spec.proofs.Cases.{cases}
 use Rattle.sprite.specs.Frames.{rowAt}
-use borrow.Author.Needs.{needs}
 use Rattle.sprite.proofs.heads.row_at.Statement.{statement}
 use Rattle.sprite.proofs.heads.row_at.Tie as tie
 

@@ -1,9 +1,9 @@
 use Prim.Native.Nat.{_+_, _≤_, _<_}
 use native.Mathlib.Omega.{arith}
+use borrow.Author.Needs.{needs}
 use Rattle.spec.specs.Basics.{if}
 use Rattle.spec.proofs.Cases.{cases}
 use Rattle.sprite.specs.Frames.{segmentAt}
-use borrow.Author.Needs.{needs}
 use Rattle.sprite.proofs.heads.segment_at.Statement.{statement}
 use Rattle.sprite.proofs.heads.segment_at.Tie as tie
 

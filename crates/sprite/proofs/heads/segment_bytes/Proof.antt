@@ -1,7 +1,7 @@
+use borrow.Author.Needs.{needs}
 use Rattle.spec.specs.Basics.{if}
 use Rattle.spec.proofs.Cases.{cases}
 use Rattle.sprite.specs.Frames.{segmentBytes}
-use borrow.Author.Needs.{needs}
 use Rattle.sprite.proofs.heads.segment_bytes.Statement.{statement}
 use Rattle.sprite.proofs.heads.segment_bytes.Tie as tie
 

@@ -3,9 +3,9 @@ use mathlib.Core.Path.{_≡_, refl}
 use native.Mathlib.Omega.{arith}
 use lib.ListN.{length-set, length}
 use lib.Seq.{sets}
+use borrow.Author.Needs.{needs}
 use Rattle.spec.specs.Basics.{part}
 use Rattle.spec.proofs.Parts.{sets-step}
-use borrow.Author.Needs.{needs}
 use Rattle.sprite.proofs.paint.copy.Statement.{statement}
 use Rattle.sprite.proofs.paint.copy.Tie as tie
 

@@ -3,8 +3,8 @@ use mathlib.Core.Path.{_≡_, refl}
 use native.Mathlib.Omega.{arith}
 use lib.ListN.{length-set, length, replicate}
 use lib.Seq.{sets}
-use Rattle.sprite.proofs.Segmentwise.{fill-step}
 use borrow.Author.Needs.{needs}
+use Rattle.sprite.proofs.Segmentwise.{fill-step}
 use Rattle.sprite.proofs.paint.fill.Statement.{statement}
 use Rattle.sprite.proofs.paint.fill.Tie as tie
 

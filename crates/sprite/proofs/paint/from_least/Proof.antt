@@ -1,9 +1,8 @@
 use mathlib.Core.Path.{refl}
 use native.Mathlib.Omega.{arith}
-use borrow.Author.Needs.{needs}
 use mir.Facts.{toZ-ofZ}
-use Rattle.sprite.proofs.Positions.{narrow, widens, wide, sum-is, sum-below, sum-fits}
 use borrow.Author.Needs.{needs}
+use Rattle.sprite.proofs.Positions.{narrow, widens, wide, sum-is, sum-below, sum-fits}
 use Rattle.sprite.proofs.paint.from_least.Statement.{statement}
 use Rattle.sprite.proofs.paint.from_least.Tie as tie
 

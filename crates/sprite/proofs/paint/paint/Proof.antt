@@ -5,7 +5,6 @@ use Rattle.sprite.specs.Frames.{frame}
 use Rattle.sprite.specs.Strips.{fromLeast}
 use Rattle.sprite.proofs.Heading.{known, frame-there, no-fault}
 use Rattle.sprite.proofs.Positions.{low, narrow, at-position}
-use borrow.Author.Needs.{needs}
 use Rattle.sprite.proofs.paint.paint.Statement.{statement}
 use Rattle.sprite.proofs.paint.paint.Tie as tie
 
@@ -24,11 +23,17 @@ paint-rows-requires c κs =
     let q = c .before .before .before .before .before .before .pre in
     let n = no-fault (a .s .now) (a .k) (q .0) in
     let h = c .before .before .before .frame-at .ensures in
-    let k = known (a .s .now) (a .k) n in
-    let whole = k .head in
+    let whole = known (a .s .now) (a .k) n .head in
     let first = h .1 .1 .0 in
-    let accepted = rw (frame-there (a .s .now) (a .k) n, ← h .0, ← h .1 .0, ← first) at (q .0) in
-    (omega arith, (accepted, (h .1 .1 .1 .0, (h .1 .1 .1 .1, (c .before .before .from-least .ensures .1, (c .before .from-least2 .ensures .1, q .1))))))
+    record {
+      start = omega arith;
+      accepted = rw (frame-there (a .s .now) (a .k) n, ← h .0, ← h .1 .0, ← first) at (q .0);
+      low = h .1 .1 .1 .0;
+      narrow = h .1 .1 .1 .1;
+      near = c .before .before .from-least .ensures .1;
+      high = c .before .from-least2 .ensures .1;
+      exact = q .1;
+    }
 
 same-length : tie.Need-same-length
 same-length c = search needs

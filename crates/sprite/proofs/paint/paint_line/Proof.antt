@@ -4,24 +4,21 @@ use native.Mathlib.Omega.{arith}
 use borrow.Author.Needs.{needs}
 use Rattle.sprite.specs.Strips.{origin}
 use Rattle.sprite.proofs.Laying.{strip-off}
-use borrow.Author.Needs.{needs}
 use Rattle.sprite.proofs.paint.paint_line.Statement.{statement}
 use Rattle.sprite.proofs.paint.paint_line.Tie as tie
 
 returns : tie.Need-returns
 returns c =
     let a = c .before .before .before .args in
-    strip-off (a .size) (a .left) (a .line) _ (a .picture .now) (c .before .before .before .pre .1 .1 .1 .1) (λ y h e. omega (arith, e, c .if1 .taken))
+    strip-off (a .size) (a .left) (a .line) _ (a .picture .now) (c .before .before .before .pre .exact) (λ y h e. omega (arith, e, c .if1 .taken))
 
 returns-2 : tie.Need-returns-2
 returns-2 c =
     let a = c .before .before .before .before .before .args in
-    strip-off (a .size) (a .left) (a .line) _ (a .picture .now) (c .before .before .before .before .before .pre .1 .1 .1 .1) (λ y h e. omega (arith, e, c .if2 .taken))
+    strip-off (a .size) (a .left) (a .line) _ (a .picture .now) (c .before .before .before .before .before .pre .exact) (λ y h e. omega (arith, e, c .if2 .taken))
 
 paint-row-requires : tie.Need-paint-row-requires
-paint-row-requires c κs =
-    let q = c .before .before .before .before .before .before .pre in
-    (q .0, (q .1 .0, (q .1 .1 .0, (q .1 .1 .1 .0, (c .before .if2 .left, q .1 .1 .1 .1)))))
+paint-row-requires c κs = (c .before .before .before .before .before .before .pre, c .before .if2 .left)
 
 same-length : tie.Need-same-length
 same-length c = search needs

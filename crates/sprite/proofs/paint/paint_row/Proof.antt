@@ -6,7 +6,6 @@ use borrow.Author.Needs.{needs}
 use Rattle.sprite.specs.Frames.{Shade}
 use Rattle.sprite.specs.Strips.{origin}
 use Rattle.sprite.proofs.Segments.{stands}
-use Rattle.sprite.proofs.Progress.{row-goes-on}
 use Rattle.sprite.proofs.Rowwise.{RowPainted, row-unpainted, row-paints-on, row-painted-bad, row-painted, row-length}
 use Rattle.sprite.proofs.paint.paint_row.Statement.{statement}
 use Rattle.sprite.proofs.paint.paint_row.Tie as tie
@@ -18,83 +17,63 @@ abbrev μ-loop : tie.MeasureT-loop
 μ-loop size s width first end left y picture₀ x₀ next₀ picture x next = end - next
 
 loop-holds : tie.Need-loop-holds Inv-loop μ-loop
-loop-holds c =
-    let q = c .before .before .pre in
-    ([], row-unpainted _ _ _ _ _ _ _ _ (q .1 .1 .1 .1 .1) (q .0))
+loop-holds c = ([], row-unpainted (c .before .before .pre .0))
 
 sub-segment-at : tie.Need-sub-segment-at Inv-loop μ-loop
 sub-segment-at c = c .before .loop .inv .1 .read .fits
 
 segment-at-requires : tie.Need-segment-at-requires Inv-loop μ-loop
-segment-at-requires c κs = (c .before .loop .inv .1 .read .place, c .before .before .before .before .pre .1 .0)
+segment-at-requires c κs = (c .before .loop .inv .1 .read .place, c .before .before .before .before .pre .0 .within)
 
 enum-told : tie.Need-enum-told Inv-loop μ-loop
 enum-told c = search needs
 
 same-length : tie.Need-same-length Inv-loop μ-loop
-same-length c =
-    let a = c .before .before .before .before .before .before .before .args in
-    let q = c .before .before .before .before .before .before .before .pre in
-    row-length (a .size) (a .s .now) (a .width) (a .first) (a .end) (a .left) (origin + a .y) (a .picture .now) (q .1 .0) _ _ _ _ (c .before .before .before .before .loop .inv .1) ∙ sym (q .1 .1 .1 .1 .1)
+same-length c = row-length (c .before .before .before .before .before .before .before .pre .0) (c .before .before .before .before .loop .inv .1) ∙ sym (c .before .before .before .before .before .before .before .pre .0 .exact)
 
 returns : tie.Need-returns Inv-loop μ-loop
-returns c =
-    let a = c .before .before .before .before .before .before .before .args in
-    let q = c .before .before .before .before .before .before .before .pre in
-    row-painted-bad (a .size) (a .s .now) (a .width) (a .first) (a .end) (a .left) (origin + a .y) (a .picture .now) (q .1 .0) _ _ _ _ (c .before .before .before .before .loop .inv .1) (c .before .before .before .loop-test .taken) (sym (c .enum-told .given .1) ∙ c .before .before .segment-at .ensures)
+returns c = row-painted-bad (c .before .before .before .before .before .before .before .pre .0) (c .before .before .before .before .loop .inv .1) (c .before .before .before .loop-test .taken) (sym (c .enum-told .given .1) ∙ c .before .before .segment-at .ensures)
 
 enum-known-count : tie.Need-enum-known-count Inv-loop μ-loop
 enum-known-count c = search needs
 
 add-paint-segment : tie.Need-add-paint-segment Inv-loop μ-loop
 add-paint-segment c =
-    let q = c .before .before .before .before .before .before .before .before .pre in
-    let l = q .1 .1 .1 .0 in
-    let w = q .1 .1 .0 in
+    let q = c .before .before .before .before .before .before .before .before .pre .0 in
+    let l = q .near in
+    let w = q .narrow in
     record { fits = omega (arith, c .before .before .before .before .before .loop .inv .1 .read .fits) }
 
 paint-segment-requires : tie.Need-paint-segment-requires Inv-loop μ-loop
 paint-segment-requires c κs =
-    let a = c .before .before .before .before .before .before .before .before .before .args in
-    let q = c .before .before .before .before .before .before .before .before .before .pre in
-    let h = q .1 .0 in
-    let k = stands (a .s .now) _ _ _ _ _ (sym (sym (c .before .before .count .given .1) ∙ c .before .before .before .before .segment-at .ensures)) in
+    let q = c .before .before .before .before .before .before .before .before .before .pre .0 in
+    let h = q .within in
+    let k = stands (c .before .before .before .before .before .before .before .before .before .args .s .now) _ _ _ _ _ (sym (c .before .before .count .given .1) ∙ c .before .before .before .before .segment-at .ensures) in
     let e = k .after in
     let w = k .within in
     let g = k .head in
-    (omega arith, (omega arith, (k .count, (q .1 .1 .1 .1 .0, row-length (a .size) (a .s .now) (a .width) (a .first) (a .end) (a .left) (origin + a .y) (a .picture .now) h _ _ _ _ (c .before .before .before .before .before .before .loop .inv .1)))))
+    record { head = omega arith; whole = omega arith; counts = k .count; low = c .before .before .before .before .before .before .before .before .before .pre .1; exact = row-length q (c .before .before .before .before .before .before .loop .inv .1) }
 
 add-x : tie.Need-add-x Inv-loop μ-loop
 add-x c =
-    let a = c .before .before .before .before .before .before .before .before .before .before .before .before .args in
-    let q = c .before .before .before .before .before .before .before .before .before .before .before .before .pre in
-    let k = row-goes-on (a .s .now) (a .width) (a .first) (a .end) (q .1 .0) _ _ _ (c .before .before .before .before .before .before .before .before .before .loop .inv .1 .read) _ _ (c .before .before .before .before .before .before .before .before .loop-test .taken) (sym (c .before .before .before .before .before .count .given .1) ∙ c .before .before .before .before .before .before .before .segment-at .ensures) in
-    let w = q .1 .1 .0 in
-    record { fits = omega (arith, k .fits) }
+    let q = c .before .before .before .before .before .before .before .before .before .before .before .before .pre .0 in
+    let k = row-paints-on q (c .before .before .before .before .before .before .before .before .before .loop .inv .1) (c .before .before .before .before .before .before .before .before .loop-test .taken) (sym (c .before .before .before .before .before .count .given .1) ∙ c .before .before .before .before .before .before .before .segment-at .ensures) (c .before .before .paint-segment .ensures) in
+    let w = q .narrow in
+    record { fits = omega (arith, k .read .fits) }
 
 loop-less : tie.Need-loop-less Inv-loop μ-loop
 loop-less c =
-    let a = c .before .before .before .before .before .before .before .before .before .before .before .before .args in
-    let k = stands (a .s .now) _ _ _ _ _ (sym (sym (c .before .before .before .before .before .count .given .1) ∙ c .before .before .before .before .before .before .before .segment-at .ensures)) in
+    let k = stands (c .before .before .before .before .before .before .before .before .before .before .before .before .args .s .now) _ _ _ _ _ (sym (c .before .before .before .before .before .count .given .1) ∙ c .before .before .before .before .before .before .before .segment-at .ensures) in
     omega (arith, k .onward, k .within)
 
 loop-again : tie.Need-loop-again Inv-loop μ-loop
-loop-again c =
-    let a = c .before .before .before .before .before .before .before .before .before .before .before .before .args in
-    let q = c .before .before .before .before .before .before .before .before .before .before .before .before .pre in
-    (_, row-paints-on (a .size) (a .s .now) (a .width) (a .first) (a .end) (a .left) (origin + a .y) (a .picture .now) (q .1 .0) _ _ _ _ (c .before .before .before .before .before .before .before .before .before .loop .inv .1) _ _ _ (c .before .before .before .before .before .before .before .before .loop-test .taken) (sym (c .before .before .before .before .before .count .given .1) ∙ c .before .before .before .before .before .before .before .segment-at .ensures) (c .before .before .paint-segment .ensures))
+loop-again c = (_, row-paints-on (c .before .before .before .before .before .before .before .before .before .before .before .before .pre .0) (c .before .before .before .before .before .before .before .before .before .loop .inv .1) (c .before .before .before .before .before .before .before .before .loop-test .taken) (sym (c .before .before .before .before .before .count .given .1) ∙ c .before .before .before .before .before .before .before .segment-at .ensures) (c .before .before .paint-segment .ensures))
 
 same-length-2 : tie.Need-same-length-2 Inv-loop μ-loop
-same-length-2 c =
-    let a = c .before .before .before .before .args in
-    let q = c .before .before .before .before .pre in
-    row-length (a .size) (a .s .now) (a .width) (a .first) (a .end) (a .left) (origin + a .y) (a .picture .now) (q .1 .0) _ _ _ _ (c .before .loop .inv .1) ∙ sym (q .1 .1 .1 .1 .1)
+same-length-2 c = row-length (c .before .before .before .before .pre .0) (c .before .loop .inv .1) ∙ sym (c .before .before .before .before .pre .0 .exact)
 
 returns-2 : tie.Need-returns-2 Inv-loop μ-loop
-returns-2 c =
-    let a = c .before .before .before .before .args in
-    let q = c .before .before .before .before .pre in
-    row-painted (a .size) (a .s .now) (a .width) (a .first) (a .end) (a .left) (origin + a .y) (a .picture .now) (q .1 .0) _ _ _ _ (c .before .loop .inv .1) (c .loop-test .left)
+returns-2 c = row-painted (c .before .before .before .before .pre .0) (c .before .loop .inv .1) (c .loop-test .left)
 
 pub paint-row-spec : {M : Type 1} → statement M
 paint-row-spec =

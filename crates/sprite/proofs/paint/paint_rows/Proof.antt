@@ -17,9 +17,7 @@ abbrev μ-loop : tie.MeasureT-loop
 μ-loop size s frame left top picture₀ done₀ at₀ picture done at = length s - at
 
 loop-holds : tie.Need-loop-holds Inv-loop μ-loop
-loop-holds c =
-    let q = c .before .before .pre in
-    ([], frame-unpainted _ _ _ _ _ _ _ _ (q .1 .1 .1 .1 .1 .1) (q .0))
+loop-holds c = ([], frame-unpainted (c .before .before .pre))
 
 sub-row-at : tie.Need-sub-row-at Inv-loop μ-loop
 sub-row-at c = omega (arith, c .before .before .before .loop .inv .1 .read .fits)
@@ -31,98 +29,72 @@ enum-told : tie.Need-enum-told Inv-loop μ-loop
 enum-told c = search needs
 
 same-length : tie.Need-same-length Inv-loop μ-loop
-same-length c =
-    let a = c .before .before .before .before .before .before .before .before .before .args in
-    let q = c .before .before .before .before .before .before .before .before .before .pre in
-    frame-length (a .size) (a .s .now) (a .frame .height) (a .frame .width) (a .frame .first) (a .left) (a .top) (a .picture .now) _ _ _ _ (c .before .before .before .before .before .before .loop .inv .1) ∙ sym (q .1 .1 .1 .1 .1 .1)
+same-length c = frame-length (c .before .before .before .before .before .before .before .before .before .pre) (c .before .before .before .before .before .before .loop .inv .1) ∙ sym (c .before .before .before .before .before .before .before .before .before .pre .exact)
 
 returns : tie.Need-returns Inv-loop μ-loop
-returns c =
-    let a = c .before .before .before .before .before .before .before .before .before .args in
-    let q = c .before .before .before .before .before .before .before .before .before .pre in
-    absurd (no-bad-row (a .size) (a .s .now) (a .frame .height) (a .frame .width) (a .frame .first) (a .left) (a .top) (a .picture .now) _ _ _ _ (c .before .before .before .before .before .before .loop .inv .1) (q .1 .0) (c .before .before .before .before .if1 .taken) (sym (c .enum-told .given .1) ∙ c .before .before .row-at .ensures))
+returns c = absurd (no-bad-row (c .before .before .before .before .before .before .before .before .before .pre) (c .before .before .before .before .before .before .loop .inv .1) (c .before .before .before .before .if1 .taken) (sym (c .enum-told .given .1) ∙ c .before .before .row-at .ensures))
 
 enum-known-count : tie.Need-enum-known-count Inv-loop μ-loop
 enum-known-count c = search needs
 
 add-done : tie.Need-add-done Inv-loop μ-loop
 add-done c =
-    let a = c .before .before .before .before .before .before .before .before .before .before .args in
-    let q = c .before .before .before .before .before .before .before .before .before .before .pre in
-    let k = frame-paints-blank (a .size) (a .s .now) (a .frame .height) (a .frame .width) (a .frame .first) (a .left) (a .top) (a .picture .now) _ _ _ _ (c .before .before .before .before .before .before .before .loop .inv .1) (q .1 .0) (c .before .before .before .before .before .if1 .taken) _ (sym (c .before .count .given .1) ∙ c .before .before .before .row-at .ensures) in
-    let h = q .1 .1 .0 in
+    let k = frame-paints-blank (c .before .before .before .before .before .before .before .before .before .before .pre) (c .before .before .before .before .before .before .before .loop .inv .1) (c .before .before .before .before .before .if1 .taken) (sym (c .before .count .given .1) ∙ c .before .before .before .row-at .ensures) in
+    let h = c .before .before .before .before .before .before .before .before .before .before .pre .low in
     record { fits = omega (arith, k .read .fits) }
 
 add-at : tie.Need-add-at Inv-loop μ-loop
 add-at c =
-    let a = c .before .before .before .before .before .before .before .before .before .before .args in
-    let k = is-blank (a .s .now) _ _ _ (sym (sym (c .before .count .given .1) ∙ c .before .before .before .row-at .ensures)) in
+    let k = is-blank (c .before .before .before .before .before .before .before .before .before .before .args .s .now) _ _ _ (sym (c .before .count .given .1) ∙ c .before .before .before .row-at .ensures) in
     omega (arith, k .head)
 
 loop-less : tie.Need-loop-less Inv-loop μ-loop
 loop-less c =
-    let a = c .before .before .before .before .before .before .before .before .before .before .args in
-    let k = is-blank (a .s .now) _ _ _ (sym (sym (c .before .count .given .1) ∙ c .before .before .before .row-at .ensures)) in
+    let k = is-blank (c .before .before .before .before .before .before .before .before .before .before .args .s .now) _ _ _ (sym (c .before .count .given .1) ∙ c .before .before .before .row-at .ensures) in
     omega (arith, k .head)
 
 loop-again : tie.Need-loop-again Inv-loop μ-loop
-loop-again c =
-    let a = c .before .before .before .before .before .before .before .before .before .before .args in
-    let q = c .before .before .before .before .before .before .before .before .before .before .pre in
-    (_, frame-paints-blank (a .size) (a .s .now) (a .frame .height) (a .frame .width) (a .frame .first) (a .left) (a .top) (a .picture .now) _ _ _ _ (c .before .before .before .before .before .before .before .loop .inv .1) (q .1 .0) (c .before .before .before .before .before .if1 .taken) _ (sym (c .before .count .given .1) ∙ c .before .before .before .row-at .ensures))
+loop-again c = (_, frame-paints-blank (c .before .before .before .before .before .before .before .before .before .before .pre) (c .before .before .before .before .before .before .before .loop .inv .1) (c .before .before .before .before .before .if1 .taken) (sym (c .before .count .given .1) ∙ c .before .before .before .row-at .ensures))
 
 enum-known-end : tie.Need-enum-known-end Inv-loop μ-loop
 enum-known-end c = search needs
 
 add-paint-line : tie.Need-add-paint-line Inv-loop μ-loop
 add-paint-line c =
-    let a = c .before .before .before .before .before .before .before .before .before .before .args in
-    let k = is-data (a .s .now) _ _ _ (sym (sym (c .before .end .given .1) ∙ c .before .before .before .row-at .ensures)) in
+    let k = is-data (c .before .before .before .before .before .before .before .before .before .before .args .s .now) _ _ _ (sym (c .before .end .given .1) ∙ c .before .before .before .row-at .ensures) in
     omega (arith, k .head, k .within)
 
 add-paint-line-2 : tie.Need-add-paint-line-2 Inv-loop μ-loop
 add-paint-line-2 c =
-    let q = c .before .before .before .before .before .before .before .before .before .before .pre in
-    let h = q .1 .1 .0 in
-    let t = q .1 .1 .1 .1 .1 .0 in
+    let h = c .before .before .before .before .before .before .before .before .before .before .pre .low in
+    let t = c .before .before .before .before .before .before .before .before .before .before .pre .high in
     record { fits = omega (arith, c .before .before .before .before .before .before .before .loop .inv .1 .read .fits) }
 
 paint-line-requires : tie.Need-paint-line-requires Inv-loop μ-loop
 paint-line-requires c κs =
-    let a = c .before .before .before .before .before .before .before .before .before .before .before .args in
     let q = c .before .before .before .before .before .before .before .before .before .before .before .pre in
-    let k = is-data (a .s .now) _ _ _ (sym (sym (c .before .before .end .given .1) ∙ c .before .before .before .before .row-at .ensures)) in
+    let k = is-data (c .before .before .before .before .before .before .before .before .before .before .before .args .s .now) _ _ _ (sym (c .before .before .end .given .1) ∙ c .before .before .before .before .row-at .ensures) in
     let h = k .head in
-    (omega arith, (k .within, (q .1 .1 .1 .0, (q .1 .1 .1 .1 .0, frame-length (a .size) (a .s .now) (a .frame .height) (a .frame .width) (a .frame .first) (a .left) (a .top) (a .picture .now) _ _ _ _ (c .before .before .before .before .before .before .before .before .loop .inv .1)))))
+    record { order = omega arith; within = k .within; narrow = q .narrow; near = q .near; exact = frame-length q (c .before .before .before .before .before .before .before .before .loop .inv .1) }
 
 add-done-2 : tie.Need-add-done-2 Inv-loop μ-loop
 add-done-2 c =
-    let q = c .before .before .before .before .before .before .before .before .before .before .before .before .before .before .pre in
-    let h = q .1 .1 .0 in
+    let h = c .before .before .before .before .before .before .before .before .before .before .before .before .before .before .pre .low in
     record { fits = omega (arith, c .before .before .before .before .before .before .before .before .before .before .before .loop .inv .1 .read .fits) }
 
 loop-less-2 : tie.Need-loop-less-2 Inv-loop μ-loop
 loop-less-2 c =
-    let a = c .before .before .before .before .before .before .before .before .before .before .before .before .before .before .args in
-    let k = is-data (a .s .now) _ _ _ (sym (sym (c .before .before .before .before .before .end .given .1) ∙ c .before .before .before .before .before .before .before .row-at .ensures)) in
+    let k = is-data (c .before .before .before .before .before .before .before .before .before .before .before .before .before .before .args .s .now) _ _ _ (sym (c .before .before .before .before .before .end .given .1) ∙ c .before .before .before .before .before .before .before .row-at .ensures) in
     omega (arith, k .head, k .within)
 
 loop-again-2 : tie.Need-loop-again-2 Inv-loop μ-loop
-loop-again-2 c =
-    let a = c .before .before .before .before .before .before .before .before .before .before .before .before .before .before .args in
-    let q = c .before .before .before .before .before .before .before .before .before .before .before .before .before .before .pre in
-    (_, frame-paints-on (a .size) (a .s .now) (a .frame .height) (a .frame .width) (a .frame .first) (a .left) (a .top) (a .picture .now) _ _ _ _ (c .before .before .before .before .before .before .before .before .before .before .before .loop .inv .1) (q .1 .0) (c .before .before .before .before .before .before .before .before .before .if1 .taken) _ (sym (c .before .before .before .before .before .end .given .1) ∙ c .before .before .before .before .before .before .before .row-at .ensures) _ (c .before .before .paint-line .ensures))
+loop-again-2 c = (_, frame-paints-on (c .before .before .before .before .before .before .before .before .before .before .before .before .before .before .pre) (c .before .before .before .before .before .before .before .before .before .before .before .loop .inv .1) (c .before .before .before .before .before .before .before .before .before .if1 .taken) (sym (c .before .before .before .before .before .end .given .1) ∙ c .before .before .before .before .before .before .before .row-at .ensures) (c .before .before .paint-line .ensures))
 
 same-length-2 : tie.Need-same-length-2 Inv-loop μ-loop
-same-length-2 c =
-    let a = c .before .before .before .before .before .args in
-    let q = c .before .before .before .before .before .pre in
-    frame-length (a .size) (a .s .now) (a .frame .height) (a .frame .width) (a .frame .first) (a .left) (a .top) (a .picture .now) _ _ _ _ (c .before .before .loop .inv .1) ∙ sym (q .1 .1 .1 .1 .1 .1)
+same-length-2 c = frame-length (c .before .before .before .before .before .pre) (c .before .before .loop .inv .1) ∙ sym (c .before .before .before .before .before .pre .exact)
 
 returns-2 : tie.Need-returns-2 Inv-loop μ-loop
-returns-2 c =
-    let a = c .before .before .before .before .before .args in
-    frame-painted (a .size) (a .s .now) (a .frame .height) (a .frame .width) (a .frame .first) (a .left) (a .top) (a .picture .now) _ _ _ _ (c .before .before .loop .inv .1) (c .if1 .left)
+returns-2 c = frame-painted (c .before .before .before .before .before .pre) (c .before .before .loop .inv .1) (c .if1 .left)
 
 pub paint-rows-spec : {M : Type 1} → statement M
 paint-rows-spec =

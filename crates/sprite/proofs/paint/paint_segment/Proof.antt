@@ -1,9 +1,8 @@
-use Rattle.sprite.specs.Frames.{codeAt, countAt}
 use native.Mathlib.Omega.{arith}
 use borrow.Author.Needs.{needs}
+use Rattle.sprite.specs.Frames.{codeAt, countAt}
 use Rattle.sprite.proofs.Segments.{bytes-run}
-use Rattle.sprite.proofs.Segmentwise.{paints-clear, unseen-kept, stores-within, reads-within, run-painted, copy-painted}
-use borrow.Author.Needs.{needs}
+use Rattle.sprite.proofs.Segmentwise.{unseen-kept, clear-kept, stores-within, reads-within, run-painted, copy-painted}
 use Rattle.sprite.proofs.paint.paint_segment.Statement.{statement}
 use Rattle.sprite.proofs.paint.paint_segment.Tie as tie
 
@@ -11,25 +10,13 @@ clip-requires : tie.Need-clip-requires
 clip-requires c κs = search needs
 
 returns : tie.Need-returns
-returns c =
-    let a = c .before .before .before .before .before .args in
-    let q = c .before .before .before .before .before .pre in
-    let r = c .before .before .clip .result in
-    unseen-kept (a .size) (a .s .now) (a .at) (a .left) (a .y) (a .picture .now) (q .1 .0) (q .1 .1 .1 .0) (q .1 .1 .1 .1) (a .count) (r .hidden) (r .column) (r .seen) (q .1 .1 .0) (c .before .before .clip .ensures) (c .if1 .taken)
+returns c = unseen-kept (c .before .before .before .before .before .pre) (c .before .before .clip .ensures) (c .if1 .taken)
 
 mul-start : tie.Need-mul-start
-mul-start c =
-    let a = c .before .before .before .before .before .before .args in
-    let q = c .before .before .before .before .before .before .pre in
-    let r = c .before .before .before .clip .result in
-    record { fits = omega (arith, stores-within (a .size) (a .s .now) (a .at) (a .left) (a .y) (a .picture .now) (q .1 .0) (q .1 .1 .1 .0) (q .1 .1 .1 .1) (a .count) (r .hidden) (r .column) (r .seen) (q .1 .1 .0) (c .before .before .before .clip .ensures) (c .before .if1 .left)) }
+mul-start c = record { fits = omega (arith, stores-within (c .before .before .before .before .before .before .pre) (c .before .before .before .clip .ensures) (c .before .if1 .left)) }
 
 add-start : tie.Need-add-start
-add-start c =
-    let a = c .before .before .before .before .before .before .before .args in
-    let q = c .before .before .before .before .before .before .before .pre in
-    let r = c .before .before .before .before .clip .result in
-    record { fits = omega (arith, stores-within (a .size) (a .s .now) (a .at) (a .left) (a .y) (a .picture .now) (q .1 .0) (q .1 .1 .1 .0) (q .1 .1 .1 .1) (a .count) (r .hidden) (r .column) (r .seen) (q .1 .1 .0) (c .before .before .before .before .clip .ensures) (c .before .before .if1 .left)) }
+add-start c = record { fits = omega (arith, stores-within (c .before .before .before .before .before .before .before .pre) (c .before .before .before .before .clip .ensures) (c .before .before .if1 .left)) }
 
 shared-slice-read-code : tie.Need-shared-slice-read-code
 shared-slice-read-code c = search needs
@@ -40,58 +27,34 @@ add-fill c = search needs
 shared-slice-read-fill : tie.Need-shared-slice-read-fill
 shared-slice-read-fill c =
     let a = c .before .before .before .before .before .before .before .before .before .before .before .args in
-    let w = c .before .before .before .before .before .before .before .before .before .before .before .pre .1 .0 in
-    omega (arith, bytes-run (codeAt (a .s .now) (a .at)) (countAt (a .s .now) (a .at)) (c .before .before .if2 .taken))
+    omega (arith, c .before .before .before .before .before .before .before .before .before .before .before .pre .whole, bytes-run (codeAt (a .s .now) (a .at)) (countAt (a .s .now) (a .at)) (c .before .before .if2 .taken))
 
 fill-requires : tie.Need-fill-requires
-fill-requires c κs =
-    let a = c .before .before .before .before .before .before .before .before .before .before .before .args in
-    let q = c .before .before .before .before .before .before .before .before .before .before .before .pre in
-    let r = c .before .before .before .before .before .before .before .before .clip .result in
-    stores-within (a .size) (a .s .now) (a .at) (a .left) (a .y) (a .picture .now) (q .1 .0) (q .1 .1 .1 .0) (q .1 .1 .1 .1) (a .count) (r .hidden) (r .column) (r .seen) (q .1 .1 .0) (c .before .before .before .before .before .before .before .before .clip .ensures) (c .before .before .before .before .before .before .if1 .left)
+fill-requires c κs = stores-within (c .before .before .before .before .before .before .before .before .before .before .before .pre) (c .before .before .before .before .before .before .before .before .clip .ensures) (c .before .before .before .before .before .before .if1 .left)
 
 same-length : tie.Need-same-length
 same-length c = search needs
 
 returns-2 : tie.Need-returns-2
-returns-2 c =
-    let a = c .before .before .before .before .before .before .before .before .before .before .before .before .before .before .args in
-    let q = c .before .before .before .before .before .before .before .before .before .before .before .before .before .before .pre in
-    let r = c .before .before .before .before .before .before .before .before .before .before .before .clip .result in
-    run-painted (a .size) (a .s .now) (a .at) (a .left) (a .y) (a .picture .now) (q .1 .0) (q .1 .1 .1 .0) (q .1 .1 .1 .1) (a .count) (r .hidden) (r .column) (r .seen) (q .1 .1 .0) (c .before .before .before .before .before .before .before .before .before .before .before .clip .ensures) _ (c .before .before .before .before .before .before .before .before .before .if1 .left) (c .before .before .before .before .before .if2 .taken) (c .before .before .fill .ensures)
+returns-2 c = run-painted (c .before .before .before .before .before .before .before .before .before .before .before .before .before .before .pre) (c .before .before .before .before .before .before .before .before .before .before .before .clip .ensures) _ (c .before .before .before .before .before .before .before .before .before .if1 .left) (c .before .before .before .before .before .if2 .taken) (c .before .before .fill .ensures)
 
 add-copy : tie.Need-add-copy
 add-copy c = search needs
 
 add-copy-2 : tie.Need-add-copy-2
-add-copy-2 c =
-    let a = c .before .before .before .before .before .before .before .before .before .before .before .before .args in
-    let q = c .before .before .before .before .before .before .before .before .before .before .before .before .pre in
-    let r = c .before .before .before .before .before .before .before .before .before .clip .result in
-    record { fits = omega (arith, reads-within (a .size) (a .s .now) (a .at) (a .left) (a .y) (a .picture .now) (q .1 .0) (q .1 .1 .1 .0) (q .1 .1 .1 .1) (a .count) (r .hidden) (r .column) (r .seen) (q .1 .1 .0) (c .before .before .before .before .before .before .before .before .before .clip .ensures) (c .before .before .before .before .before .before .before .if1 .left) (c .before .before .if3 .taken)) }
+add-copy-2 c = record { fits = omega (arith, reads-within (c .before .before .before .before .before .before .before .before .before .before .before .before .pre) (c .before .before .before .before .before .before .before .before .before .clip .ensures) (c .before .before .before .before .before .before .before .if1 .left) (c .before .before .if3 .taken)) }
 
 copy-requires : tie.Need-copy-requires
-copy-requires c κs =
-    let a = c .before .before .before .before .before .before .before .before .before .before .before .before .args in
-    let q = c .before .before .before .before .before .before .before .before .before .before .before .before .pre in
-    let r = c .before .before .before .before .before .before .before .before .before .clip .result in
-    (stores-within (a .size) (a .s .now) (a .at) (a .left) (a .y) (a .picture .now) (q .1 .0) (q .1 .1 .1 .0) (q .1 .1 .1 .1) (a .count) (r .hidden) (r .column) (r .seen) (q .1 .1 .0) (c .before .before .before .before .before .before .before .before .before .clip .ensures) (c .before .before .before .before .before .before .before .if1 .left), reads-within (a .size) (a .s .now) (a .at) (a .left) (a .y) (a .picture .now) (q .1 .0) (q .1 .1 .1 .0) (q .1 .1 .1 .1) (a .count) (r .hidden) (r .column) (r .seen) (q .1 .1 .0) (c .before .before .before .before .before .before .before .before .before .clip .ensures) (c .before .before .before .before .before .before .before .if1 .left) (c .before .before .if3 .taken))
+copy-requires c κs = (stores-within (c .before .before .before .before .before .before .before .before .before .before .before .before .pre) (c .before .before .before .before .before .before .before .before .before .clip .ensures) (c .before .before .before .before .before .before .before .if1 .left), reads-within (c .before .before .before .before .before .before .before .before .before .before .before .before .pre) (c .before .before .before .before .before .before .before .before .before .clip .ensures) (c .before .before .before .before .before .before .before .if1 .left) (c .before .before .if3 .taken))
 
 same-length-2 : tie.Need-same-length-2
 same-length-2 c = search needs
 
 returns-3 : tie.Need-returns-3
-returns-3 c =
-    let a = c .before .before .before .before .before .before .before .before .before .before .before .before .before .before .before .args in
-    let q = c .before .before .before .before .before .before .before .before .before .before .before .before .before .before .before .pre in
-    let r = c .before .before .before .before .before .before .before .before .before .before .before .before .clip .result in
-    copy-painted (a .size) (a .s .now) (a .at) (a .left) (a .y) (a .picture .now) (q .1 .0) (q .1 .1 .1 .0) (q .1 .1 .1 .1) (a .count) (r .hidden) (r .column) (r .seen) (q .1 .1 .0) (c .before .before .before .before .before .before .before .before .before .before .before .before .clip .ensures) _ (c .before .before .before .before .before .before .before .before .before .before .if1 .left) (c .before .before .before .before .before .if3 .taken) (c .before .before .copy .ensures)
+returns-3 c = copy-painted (c .before .before .before .before .before .before .before .before .before .before .before .before .before .before .before .pre) (c .before .before .before .before .before .before .before .before .before .before .before .before .clip .ensures) _ (c .before .before .before .before .before .before .before .before .before .before .if1 .left) (c .before .before .before .before .before .if3 .taken) (c .before .before .copy .ensures)
 
 returns-4 : tie.Need-returns-4
-returns-4 c =
-    let a = c .before .before .before .before .before .before .before .before .before .before .args in
-    let q = c .before .before .before .before .before .before .before .before .before .before .pre in
-    paints-clear (a .size) (a .s .now) (a .at) (a .left) (a .y) (a .picture .now) (q .1 .0) (q .1 .1 .1 .0) (q .1 .1 .1 .1) (c .before .if2 .left) (c .if3 .left)
+returns-4 c = clear-kept (c .before .before .before .before .before .before .before .before .before .before .pre) (c .before .before .before .before .before .before .before .clip .ensures) (c .before .if2 .left) (c .if3 .left)
 
 pub paint-segment-spec : {M : Type 1} → statement M
 paint-segment-spec =
