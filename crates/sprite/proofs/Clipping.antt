@@ -1,9 +1,9 @@
 -- What the stores of a segment's seen pixels make of a picture. Assumes nothing.
-use Prim.Native.Nat.{ℕ, _+_, _-_, _*_, _/_, _%_, _<_, _≤_}
+use Prim.Native.Nat.{ℕ, _+_, _-_, _*_, _/_, _%_, _<_, _≤_, min}
 use mathlib.Core.Path.{_≡_, refl, sym, ap, _∙_}
 use mathlib.Core.Logic.{_≢_}
 use mathlib.Core.List.{List, map}
-use native.Mathlib.Nat.{mul-comm, mod-lt, div-add-mod'}
+use native.Mathlib.Nat.{mul-comm, mod-lt, div-add-mod', min-le-left, min-le-right}
 use native.Mathlib.Omega.{arith}
 use lib.Arith.{digits-lt, digits-div, digits-mod}
 use lib.Dec.{ltb, eqb}
@@ -13,26 +13,23 @@ use borrow.Author.Tests.{eq-eqb, eqb-true, ltb-true, ltb-false}
 use Rattle.spec.specs.declared.Size.{Size}
 use Rattle.spec.specs.Basics.{if, part}
 use Rattle.spec.specs.Sizes.{pixels}
-use Rattle.spec.proofs.Lists.{by-test, getD-map}
+use Rattle.spec.proofs.Lists.{getD-map}
 use Rattle.spec.proofs.Parts.{part-at, length-part, sets-in, sets-out}
 use Rattle.sprite.specs.Frames.{Shade, background, colour}
 use Rattle.sprite.specs.Symbols.{upon, overlay}
-use Rattle.sprite.specs.Strips.{origin, along, strip, hidden, column, lesser, seen}
+use Rattle.sprite.specs.Strips.{origin, along, strip, hidden, column, seen}
+use Rattle.sprite.proofs.Splits.{split, split-at}
 use Rattle.sprite.proofs.Overlays.{at, is-overlay, overlay-none}
-use Rattle.sprite.proofs.Laying.{split, split-at, along-before, along-from, along-past, some-width}
+use Rattle.sprite.proofs.Laying.{along-before, along-from, along-past, some-width}
 
--- the lesser of two is below neither, and is one of them
-pub record Least (a b n : ℕ) : Type 0 where
-  pub first : n ≤ a
-  pub second : n ≤ b
-  pub one : n < b → n ≡ a
+-- what is used of the lesser of two
+record Least (a b n : ℕ) : Type 0 where
+  first : n ≤ a
+  second : n ≤ b
+  one : n < b → n ≡ a
 
-pub least : (a b : ℕ) → Least a b (lesser a b)
-unfolding lesser
-least a b =
-    by-test (Least a b) (ltb a b)
-    (λ t. let h = ltb-true a b t in record { first = omega arith; second = omega arith; one = λ l. refl })
-    (λ t. let h = ltb-false a b t in record { first = h; second = omega arith; one = λ l. absurd (omega (arith, l)) })
+least : (a b : ℕ) → Least a b (min a b)
+least a b = record { first = min-le-left a b; second = min-le-right a b; one = λ l. omega (arith, l) }
 
 module _ (z : Size) (left line : ℕ) (shades : List Shade) where
   -- of the picture's columns those at which none of the shades lies

@@ -12,7 +12,7 @@ use Rattle.spec.specs.Basics.{if}
 use Rattle.spec.specs.Answers.{ok, badSprite, noSuchFrame, badFrame}
 use Rattle.sprite.specs.Files.{headBytes, firstVersion, lastVersion, version, frameCount, offsetOf, heightAt, widthAt, frameBytes, isSprite, isFrame, frameFault}
 use Rattle.sprite.specs.Frames.{Shade, Ended, ended, rows, frame}
-use Rattle.sprite.proofs.Laying.{split}
+use Rattle.sprite.proofs.Splits.{split}
 
 module _ (s : List ℕ) where
   pub table-whole : isSprite s ≡ true → headBytes + 4 * frameCount s ≤ length s
@@ -21,7 +21,7 @@ module _ (s : List ℕ) where
       let before = leb headBytes (length s) && (leb firstVersion (version s) && leb (version s) lastVersion) in
       leb-true _ _ (and-eq-true-iff before (leb (headBytes + 4 * frameCount s) (length s)) .0 e .1)
 
-  pub head-whole : (at : ℕ) → isFrame s at ≡ true → at + frameBytes ≤ length s
+  head-whole : (at : ℕ) → isFrame s at ≡ true → at + frameBytes ≤ length s
   unfolding isFrame
   head-whole at e = leb-true _ _ (and-eq-true-iff (leb (at + frameBytes) (length s)) _ .0 e .0)
 

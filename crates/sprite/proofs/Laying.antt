@@ -3,7 +3,6 @@ use Prim.Native.Nat.{ℕ, zero, suc, _+_, _-_, _/_, _%_, _<_, _≤_}
 use mathlib.Core.Path.{_≡_, refl, ap, _∙_}
 use mathlib.Core.Logic.{_≢_}
 use mathlib.Core.List.{List, [], _∷_, _++_}
-use mathlib.Core.Bool.{Bool, true, false}
 use native.Mathlib.Nat.{zero-mul, mul-comm, div-lt-iff-lt-mul}
 use native.Mathlib.Omega.{arith}
 use lib.Dec.{ltb, eqb}
@@ -16,27 +15,14 @@ use Rattle.spec.specs.Sizes.{pixels}
 use Rattle.sprite.specs.Frames.{Shade, background}
 use Rattle.sprite.specs.Symbols.{upon, overlay}
 use Rattle.sprite.specs.Strips.{origin, along, strip, sheet}
+use Rattle.sprite.proofs.Splits.{split, split-at}
 use Rattle.sprite.proofs.Overlays.{at, overlay-same, overlay-none, overlay-over}
 
--- of two cases one holds, and of three
-pub split : {P : Type 0} (b : Bool) → (b ≡ true → P) → (b ≡ false → P) → P
-split true f g = f refl
-split false f g = g refl
-
-pub split-at : {P : Type 0} (i n m : ℕ) → (i < n → P) → (n ≤ i → i < m → P) → (m ≤ i → P) → P
-split-at i n m f g k =
-    split (ltb i n) (λ t. f (ltb-true i n t)) (λ t.
-    split (ltb i m) (λ u. g (ltb-false i n t) (ltb-true i m u)) (λ u. k (ltb-false i m u)))
-
--- an element of two lists, one behind the other
-module _ {A : Type 0} (a b : List A) (d : A) (i : ℕ) where
-  in-front : i < length a → getD (a ++ b) i d ≡ getD a i d
-  in-front h = List·getD-append a b d i h
-
-  behind : length a ≤ i → getD (a ++ b) i d ≡ getD b (i - length a) d
-  behind h =
-      let e : i ≡ length a + (i - length a) = omega arith in
-      ap (λ (j : ℕ). getD (a ++ b) j d) e ∙ getD-append-add a b (i - length a) d
+-- an element of the second of two lists
+behind : {A : Type 0} (a b : List A) (d : A) (i : ℕ) → length a ≤ i → getD (a ++ b) i d ≡ getD b (i - length a) d
+behind a b d i h =
+    let e : i ≡ length a + (i - length a) = omega arith in
+    ap (λ (j : ℕ). getD (a ++ b) j d) e ∙ getD-append-add a b (i - length a) d
 
 getD-default : {A : Type 0} (d : A) (n i : ℕ) → getD (replicate n d) i d ≡ d
 getD-default d n i =
@@ -63,7 +49,7 @@ along-more left a b x old =
     (λ h. rw (along-before (left + length a) b x (omega arith), along-before left a x h, along-before left (a ++ b) x h))
     (λ h g.
     let l : i - left < length a = omega arith in
-    rw (along-before (left + length a) b x g, along-from left a x h, along-from left (a ++ b) x h, in-front a b background (i - left) l))
+    rw (along-before (left + length a) b x g, along-from left a x h, along-from left (a ++ b) x h, List·getD-append a b background (i - left) l))
     (λ h.
     let e : i - left - length a ≡ i - (left + length a) = omega arith in
     let l : length a ≤ i - left = omega arith in
@@ -103,7 +89,7 @@ module _ (z : Size) (left : ℕ) where
     unfolding strip if
     nothing h p = split (eqb (origin + p / z .width) line) (λ t. rw t (h (p % z .width))) (λ t. rw t)
 
-    pub strip-none : ((x : ℕ) → along left shades x ≡ background) → pic ≡ overlay z (strip left line shades) pic
+    strip-none : ((x : ℕ) → along left shades x ≡ background) → pic ≡ overlay z (strip left line shades) pic
     strip-none h = overlay-none z (strip left line shades) pic l (λ p b. nothing h p)
 
     -- in a row that is not the picture's
@@ -130,7 +116,7 @@ module _ (z : Size) (left : ℕ) where
         (λ h g.
         let n : i ≢ line = λ e. omega (arith, e) in
         let m : i - top < length rows = omega arith in
-        rw (le-ltb i top h, ne-eqb i line n, in-front rows (sh ∷ []) [] (i - top) m))
+        rw (le-ltb i top h, ne-eqb i line n, List·getD-append rows (sh ∷ []) [] (i - top) m))
         (λ h.
         let t : top ≤ i = omega arith in
         let m : length rows ≤ i - top = omega arith in
@@ -165,7 +151,7 @@ module _ (z : Size) (left : ℕ) where
         (λ h. rw (lt-ltb i top h))
         (λ h g.
         let m : i - top < length rows = omega arith in
-        rw (le-ltb i top h, in-front rows (replicate n []) [] (i - top) m))
+        rw (le-ltb i top h, List·getD-append rows (replicate n []) [] (i - top) m))
         (λ h.
         let t : top ≤ i = omega arith in
         let m : length rows ≤ i - top = omega arith in

@@ -1,4 +1,5 @@
 -- Laws of the definitions, and what the functions' proofs go by.
+pub mod Splits
 pub mod Heading
 pub mod Gathering
 pub mod Segments

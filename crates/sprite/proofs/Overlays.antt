@@ -20,7 +20,7 @@ module _ (z : Size) where
   unfolding overlay
   length-overlay f pic = length-map (from 0 (pixels z)) _ ∙ length-from 0 (pixels z)
 
-  pub overlay-at : (f : ℕ → ℕ → Shade) (pic : List ℕ) (p : ℕ) → p < pixels z → getD (overlay z f pic) p 0 ≡ upon (at f p) (getD pic p 0)
+  overlay-at : (f : ℕ → ℕ → Shade) (pic : List ℕ) (p : ℕ) → p < pixels z → getD (overlay z f pic) p 0 ≡ upon (at f p) (getD pic p 0)
   unfolding overlay
   overlay-at f pic p h = getD-rule (λ p. upon (at f p) (getD pic p 0)) (pixels z) p 0 h
 

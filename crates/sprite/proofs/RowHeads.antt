@@ -25,7 +25,7 @@ module _ (s : List ℕ) where
     pub head : at + 4 ≤ end
     pub within : end ≤ length s
 
-  abbrev pub Headed : (room at : ℕ) → RowHead → Type 0
+  abbrev Headed : (room at : ℕ) → RowHead → Type 0
   Headed room at RowHead.Bad = Unit {0}
   Headed room at (RowHead.Blank n) = IsBlank room at n
   Headed room at (RowHead.Data end) = IsData at end

@@ -15,8 +15,9 @@ use Rattle.sprite.specs.declared.heads.RowHead.the-variants as RowHead
 use Rattle.sprite.specs.Frames.{Shade, Ended, ended, segmentAt, shades, row, rowAt, rows}
 use Rattle.sprite.specs.Symbols.{overlay}
 use Rattle.sprite.specs.Strips.{strip, sheet, RowLent, FrameLent}
+use Rattle.sprite.proofs.Splits.{split}
 use Rattle.sprite.proofs.Overlays.{length-overlay}
-use Rattle.sprite.proofs.Laying.{split, strip-clear, strip-more, sheet-none, sheet-row, sheet-blank}
+use Rattle.sprite.proofs.Laying.{strip-clear, strip-more, sheet-none, sheet-row, sheet-blank}
 use Rattle.sprite.proofs.Progress.{InRow, row-begins, row-goes-on, row-ends-bad, row-ends, InFrame, frame-begins, frame-ends, frame-bad-row, frame-blank, frame-data, frame-bad-segment}
 
 -- x pixels of a row have been painted on what was lent

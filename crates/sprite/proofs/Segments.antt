@@ -34,7 +34,7 @@ module _ (s : List ℕ) where
     pub onward : at < next
     pub within : next ≤ end
 
-  abbrev pub Stood : (end room at : ℕ) → Segment → Type 0
+  abbrev Stood : (end room at : ℕ) → Segment → Type 0
   Stood end room at Segment.Bad = Unit {0}
   Stood end room at (Segment.Pixels n next) = Stands end room at n next
 

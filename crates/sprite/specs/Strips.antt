@@ -1,6 +1,6 @@
 -- What the paint pass goes by: a row of a frame, or a part of it, as a strip of shades. Assumes nothing.
 -- Columns and rows that may lie off the picture are counted from -32,768, so that none is below 0: the picture's first is number `origin`.
-use Prim.Native.Nat.{ℕ, suc, _+_, _-_, _^_, _<_, _≤_}
+use Prim.Native.Nat.{ℕ, suc, _+_, _-_, _^_, _<_, _≤_, min}
 use mathlib.Core.Path.{_≡_}
 use mathlib.Core.List.{List, []}
 use lib.Dec.{ltb, eqb}
@@ -40,11 +40,8 @@ hidden left = origin - left
 abbrev pub column : ℕ → ℕ
 column left = left - origin
 
-unfoldable pub lesser : ℕ → ℕ → ℕ
-lesser a b = if (ltb a b) a b
-
 abbrev pub seen : ℕ → ℕ → ℕ → ℕ
-seen width left count = lesser (count - hidden left) (width - column left)
+seen width left count = min (count - hidden left) (width - column left)
 
 -- the code's three numbers for them
 pub record Clipped (width left count hides starts shows : ℕ) : Type 0 where

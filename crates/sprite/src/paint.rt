@@ -7,7 +7,7 @@ use crate::heads::RowHead;
 use crate::heads::Segment;
 use spec::Size;
 ghost use mathlib.Core.Path.{_≡_};
-ghost use Prim.Native.Nat.{_+_, _-_, _^_, _≤_, _<_};
+ghost use Prim.Native.Nat.{_+_, _-_, _^_, _≤_, _<_, min};
 ghost use lib.ListN.{length, replicate};
 ghost use lib.Seq.{sets};
 ghost use Rattle.spec.specs.Answers.{ok};
@@ -15,7 +15,7 @@ ghost use Rattle.spec.specs.Basics.{part};
 ghost use Rattle.spec.specs.Sizes.{pixels};
 ghost use Rattle.sprite.specs.Frames.{shades, row, rows, frame};
 ghost use Rattle.sprite.specs.Symbols.{placed, overlay};
-ghost use Rattle.sprite.specs.Strips.{origin, fromLeast, strip, sheet, lesser, Clipped, SegmentLent, RowLent, FrameLent};
+ghost use Rattle.sprite.specs.Strips.{origin, fromLeast, strip, sheet, Clipped, SegmentLent, RowLent, FrameLent};
 
 // The picture's first column and row. specs/Strips.antt has it as `origin`.
 const ORIGIN: usize = 32768;
@@ -31,7 +31,7 @@ fn less(a: usize, b: usize) -> usize
 }
 
 fn lesser(a: usize, b: usize) -> usize
-    ensures { λ r. ⌜ r ≡ lesser a b ⌝ }
+    ensures { λ r. ⌜ r ≡ min a b ⌝ }
 {
     if a < b {
         return a;

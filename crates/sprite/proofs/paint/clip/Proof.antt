@@ -21,7 +21,7 @@ returns : tie.Need-returns
 returns c =
     let a = c .before .before .before .before .less .ensures in
     let b = c .before .before .before .less2 .ensures in
-    record { hidden = a; column = b; seen = rw (← a, ← b, ← c .before .before .less3 .ensures, ← c .before .less4 .ensures) (c .lesser .ensures) }
+    record { hidden = a; column = b; seen = rw (c .before .before .less3 .ensures, c .before .less4 .ensures, a, b) at (c .lesser .ensures) }
 
 pub clip-spec : {M : Type 1} → statement M
 clip-spec =
