@@ -1,3 +1,5 @@
+use Prim.Native.Nat.{ℕ, _-_, min}
+use mathlib.Core.Path.{ap, _∙_}
 use borrow.Author.Needs.{needs}
 use Rattle.sprite.proofs.paint.clip.Statement.{statement}
 use Rattle.sprite.proofs.paint.clip.Tie as tie
@@ -21,7 +23,9 @@ returns : tie.Need-returns
 returns c =
     let a = c .before .before .before .before .less .ensures in
     let b = c .before .before .before .less2 .ensures in
-    record { hidden = a; column = b; seen = rw (c .before .before .less3 .ensures, c .before .less4 .ensures, a, b) at (c .lesser .ensures) }
+    let counted = c .before .before .less3 .ensures ∙ ap (λ (n : ℕ). c .before .before .before .before .before .args .count - n) a in
+    let room = c .before .less4 .ensures ∙ ap (λ (n : ℕ). c .before .before .before .before .before .args .width - n) b in
+    record { hidden = a; column = b; seen = c .lesser .ensures ∙ λ i. min (counted i) (room i) }
 
 pub clip-spec : {M : Type 1} → statement M
 clip-spec =
