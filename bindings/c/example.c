@@ -1,4 +1,5 @@
-/* Gets a picture out of two chunks, shows which blocks can be trusted, writes a chunk of its own, and paints a symbol.
+/* Gets a picture out of two chunks, shows which blocks can be trusted, writes a chunk of its own, walks a feed and a
+ * run, and paints a symbol.
  * cc example.c libseatboard.a -o example && ./example */
 #include <stdio.h>
 #include <string.h>
@@ -21,6 +22,18 @@ static void print_picture(const uint8_t *picture)
             printf(" %u", picture[y * WIDTH + x]);
         printf("\n");
     }
+}
+
+/* Chunks that have waited, handed over at once: each behind its length, and the size beside them. The second one is
+ * refused; it changes nothing, does not count, and does not end the run. */
+static void walk_run(uint8_t *picture, uint16_t *map)
+{
+    const uint8_t run[] = {7, 0xE1, 0, 0, 7, 0x02, 0x60, 6,
+                           5, 0xE1, 0, 0, 5, 0x23,
+                           7, 0xE1, 0, 0, 7, 0x60, 2, 0x02};
+    struct seatboard_tally tally = seatboard_walk_run(size, run, sizeof run, picture, PIXELS, map, BLOCKS);
+    show("walk run", tally.answer);
+    printf("accepted: %zu\n", tally.accepted);
 }
 
 /* On a copy, so that the held picture stays as its map says. */
@@ -68,6 +81,7 @@ int main(void)
     /* a feed: width / 4, height / 4, then each chunk behind its length */
     const uint8_t feed[] = {2, 2, 6, 0xE1, 0, 0, 6, 0x63, 4};
     show("walk feed", seatboard_walk_feed(feed, sizeof feed, picture, PIXELS, map, BLOCKS));
+    walk_run(picture, map);
     paint_symbol(picture);
     return 0;
 }

@@ -1,17 +1,18 @@
 /*
  * seatboard.h - the proved picture codec of the seat boards: SMC chunks read and written, the map that says which blocks
- * of a picture can be trusted, the walk of the house feed, and seat symbols painted on a shown picture. Link with
- * libseatboard.a. For x86-64 Linux, C99 or C++.
+ * of a picture can be trusted, the walk of the house feed and of a run of chunks, and seat symbols painted on a shown
+ * picture. Link with libseatboard.a. For x86-64 Linux, C99 or C++.
  *
  * What the library promises
  *   Whatever bytes and lengths it is lent, every call comes back with one of the numbers below. It reads and writes
  *   nothing but what it is lent, keeps no pointer, allocates nothing, and has no state of its own: threads may call it
  *   at once, each with its own buffers. It calls nothing but memcpy and memset, and needs at most 16 KiB of stack.
- *   A refused call leaves all that it was lent as it was; the one exception stands at seatboard_walk_feed.
+ *   A refused call leaves all that it was lent as it was; the one exception stands at seatboard_walk_feed and
+ *   seatboard_walk_run.
  *
  * What the caller owes (nothing checks it)
  *   - Each pointer is good for as many elements as the length after it says, for reading, and for writing where it is not
- *     const. Lengths count elements: bytes of chunks, pictures, feeds, outputs and files, 16-bit numbers of maps.
+ *     const. Lengths count elements: bytes of chunks, pictures, feeds, runs, outputs and files, 16-bit numbers of maps.
  *   - Where a length is 0 its pointer may be anything, NULL too.
  *   - A buffer that is not const overlaps no other buffer of the call. Two const ones may overlap or be the same.
  *   - A map is aligned for uint16_t, as any array of uint16_t is.
@@ -48,10 +49,10 @@ extern "C" {
 #define SEATBOARD_LONGEST_CHUNK(width, height) (4 + 17 * SEATBOARD_BLOCKS(width, height))
 
 /* The numbers that a call answers with, and the place that comes with each. Places count bytes from 0 at the chunk's
- * first byte, and for a walk's own 0, 12 and 13 at the feed's. They are looked for in this order: 1, 2, 3, 4, then
- * opcode by opcode, 11 last. Of a symbol: 1, 2, 15, 16, 17, then row by row 18 and 19, 20 last. */
+ * first byte, and for a walk's own 0, 12 and 13 at the feed's or the run's. They are looked for in this order: 1, 2, 3,
+ * 4, then opcode by opcode, 11 last. Of a symbol: 1, 2, 15, 16, 17, then row by row 18 and 19, 20 last. */
 enum {
-    SEATBOARD_OK = 0,              /* accepted; the place is the length of the chunk or feed read, or of the chunk
+    SEATBOARD_OK = 0,              /* accepted; the place is the length of the chunk, feed or run read, or of the chunk
                                       written, and 0 for fresh map, count and symbol */
     SEATBOARD_BAD_SIZE = 1,        /* width or height not allowed; 0 */
     SEATBOARD_BAD_LENGTH = 2,      /* a lent picture or map is not of the exact length; 0 */
@@ -64,8 +65,9 @@ enum {
     SEATBOARD_PAST_LAST_BLOCK = 9, /* an opcode runs past the last block; that opcode */
     SEATBOARD_ENTRY_EMPTY = 10,    /* a table's entry that was not filled in this chunk; that opcode */
     SEATBOARD_BYTES_FOLLOW = 11,   /* bytes follow the last block; the first such byte */
-    SEATBOARD_BAD_VARINT = 12,     /* a number of the feed is badly formed; that number */
-    SEATBOARD_FEED_CUT = 13,       /* the feed ends inside a number or a chunk; the number, or the chunk's first byte */
+    SEATBOARD_BAD_VARINT = 12,     /* a number of the feed or run is badly formed; that number */
+    SEATBOARD_FEED_CUT = 13,       /* the feed or run ends inside a number or a chunk; the number, or the chunk's first
+                                      byte */
     SEATBOARD_OUTPUT_SHORT = 14,   /* the output is shorter than the chunk; 0 */
     SEATBOARD_BAD_SPRITE = 15,     /* a symbol file's head or offset table is cut short, or another version; 0 */
     SEATBOARD_NO_SUCH_FRAME = 16,  /* frame number not below the file's count; 0 */
@@ -92,6 +94,11 @@ struct seatboard_count {
     size_t unsettled; /* 0 where the count was refused */
 };
 
+struct seatboard_tally {
+    struct seatboard_answer answer;
+    size_t accepted; /* how many chunks were accepted; 0 where the answer is 1 or 2 */
+};
+
 /* Makes a fresh map: entry k is k. Answers 0, 1 or 2. */
 struct seatboard_answer seatboard_fresh_map(struct seatboard_size size, uint16_t *map, size_t map_length);
 
@@ -114,6 +121,13 @@ struct seatboard_answer seatboard_write_chunk(struct seatboard_size size, const 
  * leaves what the chunks accepted before that made. */
 struct seatboard_answer seatboard_walk_feed(const uint8_t *feed, size_t feed_length, uint8_t *picture,
                                             size_t picture_length, uint16_t *map, size_t map_length);
+
+/* Walks a run, which is what a feed has behind its size numbers: for each chunk its length and the chunk. Each chunk in
+ * turn, as by seatboard_read_chunk, and the accepted ones are counted. A refused chunk changes nothing and does not end
+ * the walk. Answers 0, 1, 2, 12 or 13; a walk that ends in 12 or 13 leaves what the chunks accepted before that made,
+ * and counts them. */
+struct seatboard_tally seatboard_walk_run(struct seatboard_size size, const uint8_t *run, size_t run_length,
+                                          uint8_t *picture, size_t picture_length, uint16_t *map, size_t map_length);
 
 /* Paints a frame of an SPR# file, numbered from 0, on a shown picture. The frame's upper left pixel falls on column
  * left, row top, which may lie off the picture; pixels off it are dropped, and background leaves the picture's pixel.

@@ -5,7 +5,7 @@
  *   picture         a byte: pixel k starts as k times that
  *   calls           a byte each, CALL and flags below, and what that call takes:
  *     any call that is ODD   a size and lengths that need not be allowed: see odd_board
- *     READ, WALK             a length, two bytes, lowest first, and as many bytes
+ *     READ, WALK, RUN        a length, two bytes, lowest first, and as many bytes
  *     WRITE                  the output's room and the new picture: see write_call
  *     NUMBERS                a length and bytes, which become the map, over and over
  *     PAINT                  left and top, two bytes each, a frame, and a length and bytes: see paint_call
@@ -18,11 +18,11 @@
 #include "loans.h"
 #include "promises.h"
 
-enum { FRESH_MAP, COUNT, NUMBERS, WALK, WRITE, READ, PAINT, CALL = 7 }; /* 7 reads too */
+enum { FRESH_MAP, COUNT, NUMBERS, WALK, WRITE, READ, PAINT, RUN, CALL = 7 };
 enum {
     EARLY = 8,    /* the buffers begin where their pages begin */
     ODD = 16,
-    REPAIR = 32,  /* the chunk states its length; the feed has the board's size, and its chunks state theirs */
+    REPAIR = 32,  /* the chunk states its length; so do those of a feed or run, and the feed has the board's size */
     OVERLAP = 32, /* the new picture starts in the old one */
     HEAD = 32,    /* the symbol file gets a head */
     CLOSE = 64,   /* the chunk is made one that is accepted */
@@ -93,7 +93,7 @@ static void odd_board(struct input *in)
     board.blocks = odd_length(lengths >> 3, board.blocks, product / 16);
 }
 
-/* ---- chunks and feeds ---- */
+/* ---- chunks, feeds and runs ---- */
 
 static void state_length(uint8_t *chunk, size_t length)
 {
@@ -139,16 +139,28 @@ static void read_call(struct input *in, unsigned how)
     try_read(&board, bytes, length);
 }
 
+/* As far as there are whole chunks. */
+static void state_lengths(uint8_t *run, size_t length)
+{
+    size_t chunk;
+    for (size_t at = 0; number_at(run, length, &at, &chunk) == 0 && chunk <= length - at; at += chunk)
+        state_length(run + at, chunk);
+}
+
 static void walk_call(struct input *in, unsigned how)
 {
-    size_t start = how & REPAIR ? 2 : 0, length = start + next_bytes(in, bytes + start), chunk;
-    if (how & REPAIR) {
-        bytes[0] = (uint8_t)(board.size.width / 4);
-        bytes[1] = (uint8_t)(board.size.height / 4);
-        for (size_t at = 2; number_at(bytes, length, &at, &chunk) == 0 && chunk <= length - at; at += chunk)
-            state_length(bytes + at, chunk);
-    }
-    try_walk(&board, bytes, length);
+    size_t start = how & REPAIR ? put_size(&board, bytes) : 0, length = next_bytes(in, bytes + start);
+    if (how & REPAIR)
+        state_lengths(bytes + start, length);
+    try_walk(&board, bytes, start + length);
+}
+
+static void run_call(struct input *in, unsigned how)
+{
+    size_t length = next_bytes(in, bytes);
+    if (how & REPAIR)
+        state_lengths(bytes, length);
+    try_run(&board, bytes, length);
 }
 
 /* ---- pictures and maps ---- */
@@ -236,8 +248,9 @@ static void one_call(struct input *in)
     case NUMBERS: numbers_call(in); break;
     case WALK: walk_call(in, how); break;
     case WRITE: write_call(in, how); break;
+    case READ: read_call(in, how); break;
     case PAINT: paint_call(in, how); break;
-    default: read_call(in, how);
+    case RUN: run_call(in, how); break;
     }
     board.size = size;
     board.pixels = pixels;

@@ -68,6 +68,8 @@ static void from_generator(uint64_t first, uint64_t count)
     if (first == 0) {
         snprintf(now, sizeof now, "the longest chunks\n");
         try_longest_chunks();
+        snprintf(now, sizeof now, "the longest run\n");
+        try_longest_run();
     }
     for (uint64_t number = first; number < first + count; number++) {
         snprintf(now, sizeof now, "made input %llu\n", (unsigned long long)number);

@@ -13,9 +13,10 @@
 #define OUTPUT_BYTE 0xC3
 
 typedef struct seatboard_answer Answer;
+typedef struct seatboard_tally Tally;
 
 static struct board start, twin; /* the board that a call is given, and another to try the like on */
-static uint8_t outputs[2][MOST], wanted[MOST], feed_of_one[MOST];
+static uint8_t outputs[2][MOST], wanted[MOST], feed_made[MOST];
 static int stamps[2][MAX_PIXELS];
 
 static void broken(const char *promise)
@@ -177,19 +178,38 @@ static bool place_promised(Answer said, const uint8_t *chunk, size_t length)
 }
 
 static Answer call_walk(struct board *board, const uint8_t *bytes, size_t length);
+static Tally call_run(struct board *board, const uint8_t *bytes, size_t length);
 
-/* A feed of the board's size and this chunk alone. */
-static size_t make_feed_of_one(const struct board *board, const uint8_t *chunk, size_t length)
+size_t put_size(const struct board *board, uint8_t *to)
+{
+    to[0] = (uint8_t)(board->size.width / 4);
+    to[1] = (uint8_t)(board->size.height / 4);
+    return 2;
+}
+
+/* A run of this chunk alone. */
+static size_t put_run_of_one(const uint8_t *chunk, size_t length, uint8_t *to)
 {
     size_t at = 0, rest = length;
-    feed_of_one[at++] = (uint8_t)(board->size.width / 4);
-    feed_of_one[at++] = (uint8_t)(board->size.height / 4);
     for (; rest > 127; rest >>= 7)
-        feed_of_one[at++] = (uint8_t)(rest | 128);
-    feed_of_one[at++] = (uint8_t)rest;
+        to[at++] = (uint8_t)(rest | 128);
+    to[at++] = (uint8_t)rest;
     if (length > 0)
-        memcpy(feed_of_one + at, chunk, length);
+        memcpy(to + at, chunk, length);
     return at + length;
+}
+
+/* A chunk that was read does the same alone in a feed, and alone in a run. */
+static void promise_alone(const struct board *board, Answer said, const uint8_t *chunk, size_t length)
+{
+    size_t sizes = put_size(board, feed_made), run = put_run_of_one(chunk, length, feed_made + sizes);
+    copy_board(&twin, &start);
+    Answer walked = call_walk(&twin, feed_made, sizes + run);
+    PROMISE(same_answer(walked, answered(0, sizes + run)) && same_board(&twin, board));
+    copy_board(&twin, &start);
+    Tally ran = call_run(&twin, feed_made + sizes, run);
+    PROMISE(same_answer(ran.answer, answered(0, run)) && same_board(&twin, board));
+    PROMISE(ran.accepted == (said.number == 0));
 }
 
 /* What the map says of a chunk that was accepted: over another picture and from a fresh map, a block is settled and has
@@ -225,9 +245,7 @@ void try_read(struct board *board, const uint8_t *chunk, size_t length)
     PROMISE(same_answer(call_read(&twin, chunk, length), said) && same_board(&twin, board));
     if (board_refusal(board))
         return;
-    copy_board(&twin, &start);
-    size_t feed = make_feed_of_one(board, chunk, length);
-    PROMISE(same_answer(call_walk(&twin, feed_of_one, feed), answered(0, feed)) && same_board(&twin, board));
+    promise_alone(board, said, chunk, length);
     if (said.number == 0)
         promise_origins(board, chunk, length);
 }
@@ -254,13 +272,13 @@ static Answer call_walk(struct board *board, const uint8_t *bytes, size_t length
     return said;
 }
 
-unsigned number_at(const uint8_t *feed, size_t length, size_t *at, size_t *value)
+unsigned number_at(const uint8_t *bytes, size_t length, size_t *at, size_t *value)
 {
     *value = 0;
     for (size_t group = 0; group < 4; group++) {
         if (*at + group >= length)
             return SEATBOARD_FEED_CUT;
-        uint8_t byte = feed[*at + group];
+        uint8_t byte = bytes[*at + group];
         *value |= (size_t)(byte & 127) << 7 * group;
         if (byte >= 128)
             continue;
@@ -270,29 +288,38 @@ unsigned number_at(const uint8_t *feed, size_t length, size_t *at, size_t *value
     return SEATBOARD_BAD_VARINT;
 }
 
-/* The walk in the header's words, each chunk by seatboard_read_chunk. The buffers are the board's own: where they are
- * touched is looked at elsewhere, and a feed may have many chunks. */
+/* Lengths and chunks from a place on, in the header's words, each chunk by seatboard_read_chunk. The buffers are the
+ * board's own: where they are touched is looked at elsewhere, and there may be many chunks. */
+static Tally chunks_by_hand(struct board *board, const uint8_t *bytes, size_t length, size_t at)
+{
+    size_t accepted = 0, chunk = 0;
+    if (board_refusal(board))
+        return (Tally){answered(board_refusal(board), 0), 0};
+    for (; at < length; at += chunk) {
+        size_t number_from = at;
+        unsigned fault = number_at(bytes, length, &at, &chunk);
+        if (fault)
+            return (Tally){answered(fault, number_from), accepted};
+        if (chunk > length - at)
+            return (Tally){answered(SEATBOARD_FEED_CUT, at), accepted};
+        Answer said = seatboard_read_chunk(board->size, bytes + at, chunk, board->picture, board->pixels, board->map,
+                                           board->blocks);
+        accepted += said.number == 0;
+    }
+    return (Tally){answered(0, length), accepted};
+}
+
+/* A feed: its size, and the rest. */
 static Answer walk_by_hand(struct board *board, const uint8_t *feed, size_t length)
 {
-    size_t at = 0, number_from = 0, sides[2] = {0, 0}, chunk = 0;
+    size_t at = 0, number_from = 0, sides[2] = {0, 0};
     for (int side = 0; side < 2; side++, number_from = at) {
         unsigned fault = number_at(feed, length, &at, &sides[side]);
         if (fault)
             return answered(fault, number_from);
     }
     board->size = (struct seatboard_size){4 * sides[0], 4 * sides[1]};
-    if (board_refusal(board))
-        return answered(board_refusal(board), 0);
-    for (; at < length; at += chunk) {
-        number_from = at;
-        unsigned fault = number_at(feed, length, &at, &chunk);
-        if (fault)
-            return answered(fault, number_from);
-        if (chunk > length - at)
-            return answered(SEATBOARD_FEED_CUT, at);
-        seatboard_read_chunk(board->size, feed + at, chunk, board->picture, board->pixels, board->map, board->blocks);
-    }
-    return answered(0, length);
+    return chunks_by_hand(board, feed, length, at).answer;
 }
 
 void try_walk(struct board *board, const uint8_t *feed, size_t length)
@@ -300,6 +327,56 @@ void try_walk(struct board *board, const uint8_t *feed, size_t length)
     copy_board(&twin, board);
     Answer by_hand = walk_by_hand(&twin, feed, length);
     PROMISE(same_answer(call_walk(board, feed, length), by_hand) && same_board(board, &twin));
+}
+
+static Tally call_run(struct board *board, const uint8_t *bytes, size_t length)
+{
+    struct loan run = lend_const(CHUNK, bytes, length);
+    struct loan picture = lend(PICTURE, board->picture, board->pixels), map = lend_map(board);
+    loan_blur(&picture);
+    loan_blur(&map);
+    Tally said = seatboard_walk_run(board->size, run.lent, length, picture.lent, board->pixels, entries(&map),
+                                    board->blocks);
+    loan_clear(&picture);
+    loan_clear(&map);
+    PROMISE(loan_kept(&run, 0));
+    PROMISE(loan_kept(&picture, said.accepted > 0 ? picture.length : 0));
+    PROMISE(loan_kept(&map, said.accepted > 0 ? map.length : 0));
+    loan_end(&run, NULL);
+    loan_end(&picture, board->picture);
+    loan_end(&map, board->map);
+    return said;
+}
+
+static bool same_tally(Tally a, Tally b)
+{
+    return same_answer(a.answer, b.answer) && a.accepted == b.accepted;
+}
+
+/* A run for an allowed size is what stands in a feed behind the size numbers. */
+static void promise_feed(const struct board *board, Answer said, const uint8_t *run, size_t length)
+{
+    size_t sizes = put_size(board, feed_made);
+    if (length > 0)
+        memcpy(feed_made + sizes, run, length);
+    size_t place = said.number == SEATBOARD_BAD_LENGTH ? 0 : sizes + said.place;
+    copy_board(&twin, &start);
+    Answer walked = call_walk(&twin, feed_made, sizes + length);
+    PROMISE(same_answer(walked, answered(said.number, place)) && same_board(&twin, board));
+}
+
+void try_run(struct board *board, const uint8_t *run, size_t length)
+{
+    copy_board(&start, board);
+    copy_board(&twin, board);
+    Tally by_hand = chunks_by_hand(&twin, run, length, 0), said = call_run(board, run, length);
+    PROMISE(same_tally(said, by_hand) && same_board(board, &twin));
+
+    lend_early = !lend_early; /* the same bytes at other addresses */
+    copy_board(&twin, &start);
+    PROMISE(same_tally(call_run(&twin, run, length), said) && same_board(&twin, board));
+    if (allowed(board->size))
+        promise_feed(board, said.answer, run, length);
 }
 
 /* ---- writing ---- */
@@ -526,6 +603,25 @@ void try_longest_chunks(void)
                                                  : answered(SEATBOARD_LENGTH_DIFFERS, 0)));
         said = seatboard_walk_feed(feed, bound + 5, pixels, 16, map, 1);
         PROMISE(same_answer(said, answered(0, bound + 5)));
+        Tally ran = seatboard_walk_run(size, feed + 2, bound + 3, pixels, 16, map, 1);
+        PROMISE(same_tally(ran, (Tally){answered(0, bound + 3), 0}));
     }
     munmap(pages, room);
+}
+
+/* ---- counts that 16 bits cannot hold ---- */
+
+void try_longest_run(void)
+{
+    const uint8_t kept[] = {5, 0xE1, 0, 0, 5, 0}; /* one block is kept */
+    const size_t chunks = ((size_t)1 << 16) + 3, length = chunks * sizeof kept;
+    uint8_t *run = mmap(NULL, length, PROT_READ | PROT_WRITE, MAP_PRIVATE | MAP_ANONYMOUS, -1, 0), pixels[16] = {0};
+    uint16_t map[1] = {0};
+    const struct seatboard_size size = {4, 4};
+    PROMISE(run != MAP_FAILED);
+    for (size_t k = 0; k < chunks; k++)
+        memcpy(run + k * sizeof kept, kept, sizeof kept);
+    Tally said = seatboard_walk_run(size, run, length, pixels, 16, map, 1);
+    PROMISE(same_tally(said, (Tally){answered(0, length), chunks}));
+    munmap(run, length);
 }

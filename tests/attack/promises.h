@@ -35,13 +35,17 @@ size_t corner_of(size_t block, size_t width);
 unsigned map_refusal(const struct board *board);
 unsigned board_refusal(const struct board *board);
 
-/* A number of a feed at *at. Answers 0, and then *at is behind the number, or 12 or 13. */
-unsigned number_at(const uint8_t *feed, size_t length, size_t *at, size_t *value);
+/* A number of a feed or run at *at. Answers 0, and then *at is behind the number, or 12 or 13. */
+unsigned number_at(const uint8_t *bytes, size_t length, size_t *at, size_t *value);
+
+/* The size numbers of a feed for the board, which an allowed size has in a byte each. Returns how many bytes. */
+size_t put_size(const struct board *board, uint8_t *to);
 
 void try_fresh_map(struct board *board);
 void try_count(const struct board *board);
 void try_read(struct board *board, const uint8_t *chunk, size_t length);
 void try_walk(struct board *board, const uint8_t *feed, size_t length);
+void try_run(struct board *board, const uint8_t *run, size_t length);
 
 /* What is to be written over the board's picture. Where the two overlap, the new picture starts in the board's own
  * array. The room of the output follows from its kind and from the chunk's length: see room_of. */
@@ -65,7 +69,10 @@ struct symbol {
 /* Paints on copies of the board's picture, and leaves the board as it is. */
 void try_paint(const struct board *board, const struct symbol *symbol);
 
-/* Chunks of 2^24 - 1 bytes and of a few more, read and walked. */
+/* Chunks of 2^24 - 1 bytes and of a few more, read and walked, in a feed and in a run. */
 void try_longest_chunks(void);
+
+/* A run of more chunks than 16 bits can count. */
+void try_longest_run(void);
 
 #endif

@@ -1,8 +1,8 @@
 /*
  * The seeds, written as attack.c reads them: width, height, picture, then calls. The calls, in hex: 00 fresh map, 01
  * count, 02 numbers, 03 walk (23 repaired), 04 write (24 overlapping), 05 read (25 repaired, 65 closed too), 06 paint
- * (26 with a head put in front, 66 with its highest bytes first); 08 more where buffers begin at a page's start, 10
- * more where size and lengths are odd. A chunk, feed or symbol stands behind its length.
+ * (26 with a head put in front, 66 with its highest bytes first), 07 run (27 repaired); 08 more where buffers begin at
+ * a page's start, 10 more where size and lengths are odd. A chunk, feed, run or symbol stands behind its length.
  */
 #include <string.h>
 
@@ -15,13 +15,18 @@
  * rows, row 32,771 with a pixel */
 #define SYMBOL "0300 0400 0000 040A 0101 0202 0707 0101 0901 0408 0303 010203 00 0500"
 #define HIGH_SYMBOL "0003 0004 0010 040A 0101 0202 0708 0101 0901 0408 0303 010203 FF 0500"
-#define EIGHT(row) row row row row row row row row
+#define EIGHT(same) same same same same same same same same
 #define ROWS EIGHT("09FF 09FF 09FF 09FF")
 #define HIGHEST "FFFF01000000" ROWS ROWS ROWS ROWS "0983 0406 0201 0707" ROWS ROWS ROWS ROWS "097B 0500"
 
 /* three rows of 96, 71 and 35 colours */
 #define COPIES "0300 6000 0000 0464 0360" SIXTEEN SIXTEEN SIXTEEN SIXTEEN SIXTEEN SIXTEEN "044C 0347" SIXTEEN SIXTEEN \
     SIXTEEN SIXTEEN "00010203040506 00 0428 0323" SIXTEEN SIXTEEN "000102 00 0500"
+
+/* a block of colour 5, behind its length; 264 chunks that keep a block, of 6 bytes each with their lengths */
+#define FIVE "06E10000066005"
+#define KEPT64 EIGHT(EIGHT("05E100000500"))
+#define KEPT264 KEPT64 KEPT64 KEPT64 KEPT64 EIGHT("05E100000500")
 
 static const char *const seeds[] = {
     /* paper 01's examples 2 to 13 and 15 */
@@ -63,6 +68,19 @@ static const char *const seeds[] = {
     "00 00 00  03 0200 8000  03 0500 0101808080  0B 0600 010180808080  03 0100 01  03 0600 010180808008",
     "00 00 00  03 0600 0101FFFFFF07  03 0600 010180808004  03 0300 010105  0B 0500 010105E100  03 0000  0B 0000",
     "01 00 01  0B 0900 0102 06 E10000066105  03 0700 010100FFFFFF08  03 0200 5101",
+    /* runs: the listing's; repaired, with refused chunks at the end too; more than 8 bits can count */
+    "01 00 00  07 1300 06E1000006002004E100000406E10000066105  01",
+    "03 01 09  00  2F 2700 07E1000000610725 00 05E100000020 06E10000000142 0AE1000000800102FF0006 05E1000000F0  01",
+    "00 00 01  07 3006" KEPT264,
+    /* empty; a chunk of length 0; numbers badly formed and cut off, and chunks cut off, at first and after an accepted
+     * chunk */
+    "00 00 00  07 0000  0F 0000  07 0100 00  0F 0200 8000  07 0100 80  0F 0100 05  07 0700 07E10000066005  0F 0400"
+    "FFFFFF07",
+    "00 00 00  07 0900" FIVE "8000  0F 0B00" FIVE "80808080  07 0B00" FIVE "80808008  0F 0800" FIVE "80  07 0A00" FIVE
+    "808080  0F 0800" FIVE "05  07 0B00" FIVE "05E10000  0F 0B00" FIVE "FFFFFF07",
+    /* by sides and lengths that are odd */
+    "00 00 00  17 13 13 3F 0700" FIVE "  1F 14 1B 00 0000  17 1B 1B 01 0700" FIVE "  1F 1B 1B 02 0000"
+    "  17 1B 1B 18 0200 8000  1F 1B 1B 09 0000  37 10 1B 00 0700" FIVE "  17 1B 1B 03 0700" FIVE,
     /* any numbers in the map, moved and counted */
     "03 02 01  02 0600 FFFF0000FEFF  01  65 0800 E100000000214041  09  02 0100 FF  01",
     /* by each call: sides whose product overflows, with lengths of that product; too long and too short by one; empty;

@@ -1,6 +1,6 @@
 /*
- * How much stack each function of the library takes. Linked with `--wrap` for each of the six, every call of theirs is
- * made on a painted stack of its own; at the end it is said how much paint the worst call of each has touched.
+ * How much stack each function of the library takes. Linked with `--wrap` for each of the seven, every call of theirs
+ * is made on a painted stack of its own; at the end it is said how much paint the worst call of each has touched.
  */
 #include <stdio.h>
 #include <stdlib.h>
@@ -15,6 +15,7 @@
 #define PAINT 0xB7
 
 typedef struct seatboard_answer Answer;
+typedef struct seatboard_tally Tally;
 typedef struct seatboard_size Size;
 
 static uint8_t *stack;
@@ -25,7 +26,8 @@ static struct taken {
     size_t bytes;
 } empty = {"an empty call", 0}, fresh_map = {"seatboard_fresh_map", 0}, count = {"seatboard_count", 0},
   read_chunk = {"seatboard_read_chunk", 0}, write_chunk = {"seatboard_write_chunk", 0},
-  walk_feed = {"seatboard_walk_feed", 0}, paint_symbol = {"seatboard_paint_symbol", 0};
+  walk_feed = {"seatboard_walk_feed", 0}, walk_run = {"seatboard_walk_run", 0},
+  paint_symbol = {"seatboard_paint_symbol", 0};
 
 /* What the call under way was lent, and what came back. */
 static struct lent {
@@ -41,6 +43,7 @@ static struct lent {
     int16_t left, top;
     Answer answer;
     struct seatboard_count count;
+    Tally tally;
 } lent;
 
 static void on_paint(struct taken *taken, void (*call)(void))
@@ -65,8 +68,8 @@ static void nothing(void)
 
 static void report(void)
 {
-    static const struct taken *const all[] = {&fresh_map,   &count,     &read_chunk,
-                                              &write_chunk, &walk_feed, &paint_symbol};
+    static const struct taken *const all[] = {&fresh_map, &count,    &read_chunk,  &write_chunk,
+                                              &walk_feed, &walk_run, &paint_symbol};
     for (size_t k = 0; k < sizeof all / sizeof *all; k++)
         if (all[k]->bytes > 0)
             printf("%s: %zu bytes of stack\n", all[k]->name, all[k]->bytes - empty.bytes);
@@ -82,13 +85,14 @@ __attribute__((constructor)) static void begin(void)
     atexit(report);
 }
 
-/* ---- the six functions: the real one, its call, and what stands in for it ---- */
+/* ---- the seven functions: the real one, its call, and what stands in for it ---- */
 
 Answer __real_seatboard_fresh_map(Size, uint16_t *, size_t);
 struct seatboard_count __real_seatboard_count(Size, const uint16_t *, size_t);
 Answer __real_seatboard_read_chunk(Size, const uint8_t *, size_t, uint8_t *, size_t, uint16_t *, size_t);
 Answer __real_seatboard_write_chunk(Size, const uint8_t *, size_t, const uint8_t *, size_t, uint8_t *, size_t);
 Answer __real_seatboard_walk_feed(const uint8_t *, size_t, uint8_t *, size_t, uint16_t *, size_t);
+Tally __real_seatboard_walk_run(Size, const uint8_t *, size_t, uint8_t *, size_t, uint16_t *, size_t);
 Answer __real_seatboard_paint_symbol(Size, uint8_t *, size_t, const uint8_t *, size_t, size_t, int16_t, int16_t);
 
 static void call_fresh_map(void)
@@ -119,6 +123,12 @@ static void call_walk_feed(void)
 {
     const struct lent *l = &lent;
     lent.answer = __real_seatboard_walk_feed(l->in, l->in_length, l->out, l->out_length, l->map, l->map_length);
+}
+
+static void call_walk_run(void)
+{
+    const struct lent *l = &lent;
+    lent.tally = __real_seatboard_walk_run(l->size, l->in, l->in_length, l->out, l->out_length, l->map, l->map_length);
 }
 
 static void call_paint_symbol(void)
@@ -167,6 +177,15 @@ Answer __wrap_seatboard_walk_feed(const uint8_t *feed, size_t length, uint8_t *p
                          .map = map, .map_length = blocks};
     on_paint(&walk_feed, call_walk_feed);
     return lent.answer;
+}
+
+Tally __wrap_seatboard_walk_run(Size size, const uint8_t *run, size_t length, uint8_t *picture, size_t pixels,
+                                uint16_t *map, size_t blocks)
+{
+    lent = (struct lent){.size = size, .in = run, .in_length = length, .out = picture, .out_length = pixels,
+                         .map = map, .map_length = blocks};
+    on_paint(&walk_run, call_walk_run);
+    return lent.tally;
 }
 
 Answer __wrap_seatboard_paint_symbol(Size size, uint8_t *picture, size_t pixels, const uint8_t *file, size_t length,

@@ -19,6 +19,14 @@ pub struct Count {
     pub unsettled: usize,
 }
 
+#[repr(C)]
+#[derive(Clone, Copy, Debug, PartialEq, Eq)]
+pub struct Tally {
+    pub answer: Answer,
+    /// How many chunks were accepted; 0 where the answer is 1 or 2.
+    pub accepted: usize,
+}
+
 extern "C" {
     fn seatboard_fresh_map(size: Size, map: *mut u16, map_length: usize) -> Answer;
     fn seatboard_count(size: Size, map: *const u16, map_length: usize) -> Count;
@@ -48,6 +56,15 @@ extern "C" {
         map: *mut u16,
         map_length: usize,
     ) -> Answer;
+    fn seatboard_walk_run(
+        size: Size,
+        run: *const u8,
+        run_length: usize,
+        picture: *mut u8,
+        picture_length: usize,
+        map: *mut u16,
+        map_length: usize,
+    ) -> Tally;
     fn seatboard_paint_symbol(
         size: Size,
         picture: *mut u8,
@@ -110,6 +127,21 @@ pub fn walk_feed(feed: &[u8], picture: &mut [u8], map: &mut [u16]) -> Answer {
         seatboard_walk_feed(
             feed.as_ptr(),
             feed.len(),
+            picture.as_mut_ptr(),
+            picture.len(),
+            map.as_mut_ptr(),
+            map.len(),
+        )
+    }
+}
+
+pub fn walk_run(size: Size, run: &[u8], picture: &mut [u8], map: &mut [u16]) -> Tally {
+    // SAFETY: as above.
+    unsafe {
+        seatboard_walk_run(
+            size,
+            run.as_ptr(),
+            run.len(),
             picture.as_mut_ptr(),
             picture.len(),
             map.as_mut_ptr(),

@@ -1,11 +1,11 @@
 //! The proved picture codec of the seat boards, for Rust programs: SMC chunks read and written, the
-//! map that says which blocks of a picture can be trusted, the walk of the house feed, and seat
-//! symbols painted on a shown picture.
+//! map that says which blocks of a picture can be trusted, the walk of the house feed and of a run
+//! of chunks, and seat symbols painted on a shown picture.
 //!
-//! Slices in, a [`Result`] out, nothing `unsafe` for the caller, no allocation, no panic. Any bytes
-//! and any lengths may be lent. A refused call leaves all that it was lent as it was, but for a
-//! walk that ends in [`Reason::BadVarint`] or [`Reason::FeedCut`]: it leaves what the chunks
-//! accepted before that made.
+//! Slices in, a [`Result`] out (of a run a [`Tally`] with one), nothing `unsafe` for the caller, no
+//! allocation, no panic. Any bytes and any lengths may be lent. A refused call leaves all that it
+//! was lent as it was, but for a walk, of a feed or of a run, that ends in [`Reason::BadVarint`] or
+//! [`Reason::FeedCut`]: it leaves what the chunks accepted before that made.
 //!
 //! ```
 //! # fn main() -> Result<(), seatboard::Refused> {
@@ -64,12 +64,24 @@ impl Size {
     }
 }
 
-/// What an accepted chunk, feed or write tells.
+/// What an accepted chunk, feed, run or write tells.
 #[derive(Clone, Copy, Debug, PartialEq, Eq)]
 #[non_exhaustive]
 pub struct Accepted {
-    /// The length of the chunk or feed that was read, or of the chunk that was written.
+    /// The length of the chunk, feed or run that was read, or of the chunk that was written.
     pub length: usize,
+}
+
+/// What a run tells. It is no [`Result`]: what was accepted before the end counts, whatever the end
+/// is.
+#[derive(Clone, Copy, Debug, PartialEq, Eq)]
+#[must_use]
+#[non_exhaustive]
+pub struct Tally {
+    /// How many chunks were accepted; 0 where size or lengths were refused.
+    pub accepted: usize,
+    /// The walk's own end. A chunk that was refused does not show here.
+    pub end: Result<Accepted, Refused>,
 }
 
 /// Why a call was refused, and where.
@@ -77,8 +89,8 @@ pub struct Accepted {
 #[non_exhaustive]
 pub struct Refused {
     pub reason: Reason,
-    /// The byte of the chunk, or for 12 and 13 of the feed, at which it was found; 0 for the reasons
-    /// that have no place.
+    /// The byte of the chunk, or for 12 and 13 of the feed or run, at which it was found; 0 for the
+    /// reasons that have no place.
     pub place: usize,
 }
 
@@ -109,9 +121,9 @@ pub enum Reason {
     EntryEmpty = 10,
     /// Bytes follow the last block.
     BytesFollow = 11,
-    /// A number of the feed is badly formed.
+    /// A number of the feed or run is badly formed.
     BadVarint = 12,
-    /// The feed ends inside a number or a chunk.
+    /// The feed or run ends inside a number or a chunk.
     FeedCut = 13,
     /// The output is shorter than the chunk.
     OutputShort = 14,
@@ -233,6 +245,17 @@ pub fn write_chunk(
 /// nothing and does not end the walk.
 pub fn walk_feed(feed: &[u8], picture: &mut [u8], map: &mut [u16]) -> Result<Accepted, Refused> {
     accepted(exact::walk_feed(feed, picture, map))
+}
+
+/// Walks a run over a picture and its map: what a feed has behind its size numbers, for each chunk
+/// its length and the chunk. The same as reading its chunks singly: a refused one changes nothing,
+/// is not counted, and does not end the walk.
+pub fn walk_run(size: Size, run: &[u8], picture: &mut [u8], map: &mut [u16]) -> Tally {
+    let tally = exact::walk_run(size, run, picture, map);
+    Tally {
+        accepted: tally.accepted,
+        end: accepted(tally.answer),
+    }
 }
 
 /// Paints a frame of an SPR# file on a shown picture, its upper left pixel at column `left`, row

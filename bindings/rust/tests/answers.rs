@@ -81,6 +81,68 @@ fn feeds_are_refused_where_they_are_cut() {
     assert_eq!(walk(&cut), ((Reason::FeedCut, 10), 5, [65_535; 2]));
 }
 
+/// The feed of paper 01's listing without its size numbers: block 0 is copied to block 1, the next
+/// chunk is refused, and the last fills both with colour 5.
+#[rustfmt::skip]
+const RUN: [u8; 19] = [
+    6, 0xE1, 0, 0, 6, 0x00, 0x20,
+    4, 0xE1, 0, 0, 4,
+    6, 0xE1, 0, 0, 6, 0x61, 5,
+];
+
+/// Walks a run over a picture of zeros and a fresh map: number, place and number accepted by both
+/// ways of calling, the last pixel and the map.
+fn walk_run(size: Size, run: &[u8]) -> ((u8, usize), usize, u8, [u16; 2]) {
+    let (mut picture, mut map) = ([0; 32], [0, 1]);
+    let exact::Tally { answer, accepted } = exact::walk_run(size, run, &mut picture, &mut map);
+    let (mut same_picture, mut same_map) = ([0; 32], [0, 1]);
+    let tally = seatboard::walk_run(size, run, &mut same_picture, &mut same_map);
+    let end = tally.end.map_or_else(
+        |refused| (refused.reason.number(), refused.place),
+        |accepted| (0, accepted.length),
+    );
+    assert_eq!((same_picture, same_map), (picture, map));
+    assert_eq!(
+        (end, tally.accepted),
+        ((answer.number, answer.place), accepted)
+    );
+    (end, accepted, picture[31], map)
+}
+
+#[test]
+fn a_run_counts_what_is_accepted() {
+    let settled = [65_535; 2];
+    assert_eq!(walk_run(SIZE, &RUN), ((0, 19), 2, 5, settled));
+    assert_eq!(walk_run(SIZE, &RUN[12..]), ((0, 7), 1, 5, settled));
+    assert_eq!(walk_run(SIZE, &RUN[..12]), ((0, 12), 1, 0, [0, 0]));
+    assert_eq!(walk_run(SIZE, &RUN[7..12]), ((0, 5), 0, 0, [0, 1]));
+    assert_eq!(walk_run(SIZE, &[]), ((0, 0), 0, 0, [0, 1]));
+    assert_eq!(walk_run(SIZE, &[0, 0]), ((0, 2), 0, 0, [0, 1]));
+}
+
+#[test]
+fn a_run_is_refused_by_size_and_lengths_first() {
+    for run in [&RUN[..], &[0x80, 0], &[]] {
+        assert_eq!(walk_run(WRONG, run), ((1, 0), 0, 0, [0, 1]));
+        assert_eq!(walk_run(LONE, run), ((2, 0), 0, 0, [0, 1]));
+    }
+}
+
+#[test]
+fn what_a_run_accepted_before_its_end_stays_and_counts() {
+    let after_run = |more: &[u8]| {
+        let (mut picture, mut map) = ([0; 32], [0, 1]);
+        let run = [&RUN, more].concat();
+        let tally = seatboard::walk_run(SIZE, &run, &mut picture, &mut map);
+        assert_eq!((picture, map), ([5; 32], [65_535; 2]));
+        (tally.accepted, refused(tally.end))
+    };
+    assert_eq!(after_run(&[0x80, 0]), (2, (Reason::BadVarint, 19)));
+    assert_eq!(after_run(&[0x80]), (2, (Reason::FeedCut, 19)));
+    assert_eq!(after_run(&[0x80, 1, 0xE1]), (2, (Reason::FeedCut, 21)));
+    assert_eq!(after_run(&[6]), (2, (Reason::FeedCut, 20)));
+}
+
 #[test]
 fn a_write_needs_room() {
     let (old, new) = ([0; 32], [5; 32]);

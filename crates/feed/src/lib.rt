@@ -1,5 +1,5 @@
-// The house feed: its numbers, one step of a walk, the walk, and what a program that shows a board decides. Anyone may call these with any
-// bytes, of any lengths.
+// The house feed: its numbers, one step of a walk, the walk, that of a run of chunks, and what a program that shows a board decides.
+// Anyone may call these with any bytes, of any lengths.
 mod numbers;
 mod walk;
 
@@ -9,8 +9,8 @@ use spec::Answer;
 use spec::Decision;
 use spec::SizeNumbers;
 pub use walk::step;
-pub use walk::walk_chunks;
 pub use walk::walk_feed;
+pub use walk::walk_run;
 ghost use mathlib.Core.Path.{_≡_};
 ghost use Rattle.spec.specs.Listing.{decide};
 

@@ -1,15 +1,16 @@
-// The walk of a feed, chunk by chunk over a lent picture and map.
+// The walk of a feed or of a run of chunks, chunk by chunk over a lent picture and map.
 use crate::numbers;
 use spec::Answer;
 use spec::Next;
 use spec::Size;
 use spec::SizeNumbers;
 use spec::Step;
+use spec::Tally;
 use spec::Varint;
 ghost use mathlib.Core.Path.{_≡_};
 ghost use lib.ListN.{length};
 ghost use Rattle.spec.specs.Boards.{board};
-ghost use Rattle.spec.specs.Feeds.{nextAt, chunksFrom, readAll, walkStep, walk};
+ghost use Rattle.spec.specs.Feeds.{nextAt, chunksFrom, readAll, walkStep, walkChunks, walk, walkRun, tally};
 
 // What stands at a place behind the size numbers: a chunk, or the walk's end.
 fn next_at(feed: &[u8], at: usize) -> Next
@@ -50,26 +51,44 @@ pub fn step(size: Size, feed: &[u8], at: usize, picture: &mut [u8], map: &mut [u
     }
 }
 
-// The chunks from a place on, each over what the one before it left. It needs no size numbers; size and lengths are tested by each chunk's
-// reading.
-pub fn walk_chunks(
-    size: Size,
-    feed: &[u8],
-    first: usize,
-    picture: &mut [u8],
-    map: &mut [u16],
-) -> Answer
-    ensures { λ r. ⌜ r ≡ readAll size (chunksFrom (length (now (feed .entry))) (now (feed .entry)) first) (board (now (picture .entry)) (now (map .entry))) .said .answer ⌝ }
+// The chunks from a place on, each over what the one before it left, and how many of them were accepted.
+fn read_chunks(size: Size, feed: &[u8], first: usize, picture: &mut [u8], map: &mut [u16]) -> Tally
+    ensures { λ r. ⌜ r ≡ tally (readAll size (chunksFrom (length (now (feed .entry))) (now (feed .entry)) first) (board (now (picture .entry)) (now (map .entry))) .said) ⌝ }
     ensures { λ _. ⌜ now (picture .exit) ≡ readAll size (chunksFrom (length (now (feed .entry))) (now (feed .entry)) first) (board (now (picture .entry)) (now (map .entry))) .board .picture ⌝ }
     ensures { λ _. ⌜ now (map .exit) ≡ readAll size (chunksFrom (length (now (feed .entry))) (now (feed .entry)) first) (board (now (picture .entry)) (now (map .entry))) .board .map ⌝ }
 {
     let mut at = first;
+    let mut accepted: usize = 0;
     loop {
         match step(size, feed, at, picture, map) {
-            Step::End(answer) => return answer,
-            Step::Chunk(_, past) => at = past,
+            Step::End(answer) => return Tally { answer, accepted },
+            Step::Chunk(answer, next) => {
+                if answer.number == Answer::OK {
+                    accepted += 1;
+                }
+                at = next;
+            }
         }
     }
+}
+
+// The same once size and lengths are right: what a feed is behind its size numbers, and what a run is from its first byte on.
+fn walk_chunks(size: Size, feed: &[u8], first: usize, picture: &mut [u8], map: &mut [u16]) -> Tally
+    ensures { λ r. ⌜ r ≡ tally (walkChunks size (chunksFrom (length (now (feed .entry))) (now (feed .entry)) first) (board (now (picture .entry)) (now (map .entry))) .said) ⌝ }
+    ensures { λ _. ⌜ now (picture .exit) ≡ walkChunks size (chunksFrom (length (now (feed .entry))) (now (feed .entry)) first) (board (now (picture .entry)) (now (map .entry))) .board .picture ⌝ }
+    ensures { λ _. ⌜ now (map .exit) ≡ walkChunks size (chunksFrom (length (now (feed .entry))) (now (feed .entry)) first) (board (now (picture .entry)) (now (map .entry))) .board .map ⌝ }
+{
+    let fault = sizes::board_fault(size, picture.len(), map.len());
+    if fault != Answer::OK {
+        return Tally {
+            answer: Answer {
+                number: fault,
+                place: 0,
+            },
+            accepted: 0,
+        };
+    }
+    read_chunks(size, feed, first, picture, map)
 }
 
 // Walks a whole feed over a lent picture and map.
@@ -80,15 +99,15 @@ pub fn walk_feed(feed: &[u8], picture: &mut [u8], map: &mut [u16]) -> Answer
 {
     match numbers::size_numbers(feed) {
         SizeNumbers::Broken(answer) => answer,
-        SizeNumbers::Sized(size, first) => {
-            let fault = sizes::board_fault(size, picture.len(), map.len());
-            if fault != Answer::OK {
-                return Answer {
-                    number: fault,
-                    place: 0,
-                };
-            }
-            walk_chunks(size, feed, first, picture, map)
-        }
+        SizeNumbers::Sized(size, first) => walk_chunks(size, feed, first, picture, map).answer,
     }
+}
+
+// Walks a run of chunks, which has no size numbers, over a lent picture and map.
+pub fn walk_run(size: Size, run: &[u8], picture: &mut [u8], map: &mut [u16]) -> Tally
+    ensures { λ r. ⌜ r ≡ tally (walkRun size (now (run .entry)) (board (now (picture .entry)) (now (map .entry))) .said) ⌝ }
+    ensures { λ _. ⌜ now (picture .exit) ≡ walkRun size (now (run .entry)) (board (now (picture .entry)) (now (map .entry))) .board .picture ⌝ }
+    ensures { λ _. ⌜ now (map .exit) ≡ walkRun size (now (run .entry)) (board (now (picture .entry)) (now (map .entry))) .board .map ⌝ }
+{
+    walk_chunks(size, run, 0, picture, map)
 }

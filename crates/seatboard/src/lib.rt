@@ -3,9 +3,10 @@
 use spec::Answer;
 use spec::Count;
 use spec::Size;
+use spec::Tally;
 ghost use mathlib.Core.Path.{_≡_};
 ghost use Rattle.spec.specs.Boards.{board, read};
-ghost use Rattle.spec.specs.Feeds.{walk};
+ghost use Rattle.spec.specs.Feeds.{walk, walkRun, tally};
 ghost use Rattle.spec.specs.Maps.{freshMap, countMap};
 ghost use Rattle.spec.specs.Writing.{write};
 ghost use Rattle.sprite.specs.Symbols.{paintSymbol};
@@ -64,6 +65,21 @@ pub extern "C" fn seatboard_walk_feed(feed: &[u8], picture: &mut [u8], map: &mut
     ensures { λ _. ⌜ now (map .exit) ≡ walk (now (feed .entry)) (board (now (picture .entry)) (now (map .entry))) .board .map ⌝ }
 {
     feed::walk_feed(feed, picture, map)
+}
+
+// Walks a run of chunks over a lent picture and map.
+#[no_mangle]
+pub extern "C" fn seatboard_walk_run(
+    size: Size,
+    run: &[u8],
+    picture: &mut [u8],
+    map: &mut [u16],
+) -> Tally
+    ensures { λ r. ⌜ r ≡ tally (walkRun size (now (run .entry)) (board (now (picture .entry)) (now (map .entry))) .said) ⌝ }
+    ensures { λ _. ⌜ now (picture .exit) ≡ walkRun size (now (run .entry)) (board (now (picture .entry)) (now (map .entry))) .board .picture ⌝ }
+    ensures { λ _. ⌜ now (map .exit) ≡ walkRun size (now (run .entry)) (board (now (picture .entry)) (now (map .entry))) .board .map ⌝ }
+{
+    feed::walk_run(size, run, picture, map)
 }
 
 // Paints a frame of a sprite file on a picture.

@@ -22,5 +22,6 @@ pub mod Cells
 pub mod Varints
 pub mod Loops
 pub mod Feeds
+pub mod Runs
 pub mod Listing
 pub mod Boards

@@ -1,6 +1,7 @@
 -- A house number that is read: refused with 12 or 13, or a value within the limit, and a place further on in the feed. Assumes nothing.
 use Prim.Native.Nat.{ℕ, zero, suc, _+_, _*_, _<_, _≤_}
 use mathlib.Core.Path.{_≡_, subst}
+use mathlib.Core.Logic.{_≢_}
 use mathlib.Core.List.{List}
 use native.Mathlib.Omega.{arith}
 use lib.Dec.{leb}
@@ -8,13 +9,17 @@ use lib.ListN.{length, getD}
 use borrow.Author.Tests.{ltb-false, leb-false}
 use Rattle.spec.specs.declared.Varint.{Varint}
 use Rattle.spec.specs.declared.Varint.the-variants.{Bad, Value}
-use Rattle.spec.specs.Answers.{badVarint, feedCut}
+use Rattle.spec.specs.Answers.{ok, badVarint, feedCut}
 use Rattle.spec.specs.Feeds.{maxNumber, groups, varintAt}
 use Rattle.spec.proofs.Lists.{by-test}
 
 pub data Cut : ℕ → Type 0 where
   badly : Cut badVarint
   short : Cut feedCut
+
+pub cut-refused : {e : ℕ} → Cut e → e ≢ ok
+cut-refused badly h = omega (arith, h)
+cut-refused short h = omega (arith, h)
 
 pub record Got (s : List ℕ) (at v after : ℕ) : Type 0 where
   pub further : at < after

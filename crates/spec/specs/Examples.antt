@@ -4,15 +4,16 @@ use Prim.Native.Nat.{ℕ, zero, suc, _+_, _-_, _*_, _/_, _%_}
 use mathlib.Core.Path.{_≡_, refl}
 use mathlib.Core.List.{List, [], _∷_, _++_, map}
 use mathlib.Core.Bool.{true}
-use lib.ListN.{length, replicate}
+use lib.ListN.{length, drop, replicate}
+use Rattle.spec.specs.declared.Answer.{Answer}
 use Rattle.spec.specs.Basics.{from}
 use Rattle.spec.specs.Answers.{answer}
 use Rattle.spec.specs.Sizes.{blocks}
 use Rattle.spec.specs.Pictures.{given, held}
 use Rattle.spec.specs.Maps.{settled, fresh, unsettled}
-use Rattle.spec.specs.Feeds.{reply}
-use Rattle.spec.specs.Calls.{reading, walking}
-use Rattle.spec.specs.Rows.{Row, octet, sequence, lastGiven, readLengths, writeLengths, maps, writes, encodes, varint, noVarint, places, prints, size, of, holds, hold}
+use Rattle.spec.specs.Feeds.{Reply, reply}
+use Rattle.spec.specs.Calls.{reading, walking, walkingRun}
+use Rattle.spec.specs.Rows.{Row, octet, sequence, lastGiven, readLengths, runLengths, writeLengths, maps, writes, encodes, varint, noVarint, places, prints, size, of, holds, hold}
 
 -- a chunk read over a starting picture and a fresh map
 abbrev pub reads : ℕ → ℕ → List ℕ → List ℕ → ℕ → ℕ → List ℕ → List ℕ → Row
@@ -50,6 +51,10 @@ coloured n = from 0 n ++ of (16 - n) (n - 1)
 
 abbrev pub octetBlock : List ℕ
 octetBlock = 0 ∷ 0 ∷ 2 ∷ 2 ∷ 2 ∷ 1 ∷ 2 ∷ 6 ∷ 4 ∷ 2 ∷ 3 ∷ 2 ∷ 1 ∷ 5 ∷ 7 ∷ 3 ∷ []
+
+-- what a run says: the answers of its chunks, how many of these are 0, and its own
+abbrev pub says : List Answer → ℕ → Answer → Reply
+says inside n a = record { inside = inside; accepted = n; answer = a }
 
 -- the feed of 01's listing
 abbrev pub listingFeed : List ℕ
@@ -173,6 +178,26 @@ further =
     -- feed numbers that fail: each size number, before the size is looked at, and a chunk's length
     ∷ sequence 8 4 (of 32 9) (walking (0x80 ∷ 0x00 ∷ 0x01 ∷ []) ∷ walking (0x51 ∷ []) ∷ walking (0x02 ∷ 0x01 ∷ 0x80 ∷ 0x00 ∷ []) ∷ walking (0x02 ∷ 0x01 ∷ 0x80 ∷ []) ∷ [])
     (reply [] (answer 12 0) ∷ reply [] (answer 13 1) ∷ reply [] (answer 12 2) ∷ reply [] (answer 13 2) ∷ []) (of 32 9) (0 ∷ 1 ∷ []) 2
+    -- runs: the chunks of 01's listing; none; a whole feed, whose size numbers are taken for a length and a chunk
+    ∷ sequence 8 4 (of 32 0) (walkingRun (drop 2 listingFeed) ∷ [])
+    (says (answer 0 6 ∷ answer 5 4 ∷ answer 0 6 ∷ []) 2 (answer 0 19) ∷ []) (of 32 5) (of 2 settled) 0
+    ∷ sequence 8 4 (of 32 9) (walkingRun [] ∷ walkingRun listingFeed ∷ [])
+    (says [] 0 (answer 0 0) ∷ says (answer 3 0 ∷ []) 0 (answer 12 3) ∷ []) (of 32 9) (0 ∷ 1 ∷ []) 2
+    -- a chunk is read over what the one before it left; the first and the last are refused
+    ∷ sequence 8 4 (of 32 9) (walkingRun (0x00 ∷ 0x08 ∷ chunk (0x60 ∷ 0x01 ∷ 0x60 ∷ 0x02 ∷ []) ++ 0x06 ∷ chunk (0x00 ∷ 0x20 ∷ []) ++ 0x05 ∷ chunk (0xF0 ∷ [])) ∷ [])
+    (says (answer 3 0 ∷ answer 0 8 ∷ answer 0 6 ∷ answer 7 4 ∷ []) 2 (answer 0 23) ∷ []) (line (1 ∷ 1 ∷ [])) (of 2 settled) 0
+    -- the number is badly formed, cut short, or has fewer bytes behind it: what was accepted before stays, and is counted
+    ∷ sequence 8 4 (of 32 9) (walkingRun (0x07 ∷ chunk (0x00 ∷ 0x60 ∷ 0x05 ∷ []) ++ 0x80 ∷ 0x00 ∷ []) ∷ [])
+    (says (answer 0 7 ∷ []) 1 (answer 12 8) ∷ []) (line (9 ∷ 5 ∷ [])) (0 ∷ settled ∷ []) 1
+    ∷ sequence 8 4 (of 32 9) (walkingRun (0x07 ∷ chunk (0x00 ∷ 0x60 ∷ 0x05 ∷ []) ++ 0x80 ∷ []) ∷ [])
+    (says (answer 0 7 ∷ []) 1 (answer 13 8) ∷ []) (line (9 ∷ 5 ∷ [])) (0 ∷ settled ∷ []) 1
+    ∷ sequence 8 4 (of 32 9) (walkingRun (0x07 ∷ chunk (0x00 ∷ 0x60 ∷ 0x05 ∷ []) ++ 0x07 ∷ chunk (0x61 ∷ 0x01 ∷ [])) ∷ [])
+    (says (answer 0 7 ∷ []) 1 (answer 13 9) ∷ []) (line (9 ∷ 5 ∷ [])) (0 ∷ settled ∷ []) 1
+    -- size and lengths: right; the picture's wrong, the map's wrong, 1 before 2
+    ∷ runLengths 8 4 32 2 (says (answer 3 0 ∷ []) 0 (answer 0 1))
+    ∷ runLengths 8 4 31 2 (says [] 0 (answer 2 0))
+    ∷ runLengths 8 4 32 3 (says [] 0 (answer 2 0))
+    ∷ runLengths 6 4 24 2 (says [] 0 (answer 1 0))
     -- the places of the chunks of 01's listing: each one's number, its first byte, and after its last
     ∷ places listingFeed 2 (2 ∷ 3 ∷ 9 ∷ 9 ∷ 10 ∷ 14 ∷ 14 ∷ 15 ∷ 21 ∷ [])
     -- the board program: no bytes; an empty chunk; a feed that ends where a chunk would start; a copy that unsettles, and numbers of two digits

@@ -1,4 +1,4 @@
--- 01, "The house feed": numbers, the chunks of a feed, and the walk. Assumes nothing.
+-- 01, "The house feed": numbers, the chunks of a feed, the walk, and that of a run of chunks. Assumes nothing.
 use Prim.Native.Nat.{ℕ, zero, suc, _+_, _-_, _*_}
 use mathlib.Core.List.{List, [], _∷_, map}
 use mathlib.Core.Bool.{_&&_}
@@ -6,6 +6,7 @@ use lib.Dec.{leb, ltb, eqb}
 use lib.ListN.{length, getD}
 use Rattle.spec.specs.declared.Answer.{Answer}
 use Rattle.spec.specs.declared.Size.{Size}
+use Rattle.spec.specs.declared.Tally.{Tally}
 use Rattle.spec.specs.declared.Varint.{Varint}
 use Rattle.spec.specs.declared.Varint.the-variants.{Bad, Value}
 use Rattle.spec.specs.declared.SizeNumbers.{SizeNumbers}
@@ -106,28 +107,48 @@ withChunks s (Sized z p) = sized z (chunksFrom (length s) s p)
 unfoldable pub feedOf : List ℕ → Feed
 feedOf s = withChunks s (sizeNumbers s)
 
--- What a call says: its answer, and for a walk those of the chunks inside it, in order
+-- how many of these answers are 0
+abbrev pub numberAccepted : List Answer → ℕ
+numberAccepted [] = 0
+numberAccepted (a ∷ more) = if (eqb (a .number) ok) 1 0 + numberAccepted more
+
+-- What a call says: its answer, and for a walk those of the chunks inside it, in order, and how many of these were accepted
 pub record Reply : Type 0 where
   pub inside : List Answer
+  pub accepted : ℕ
   pub answer : Answer
 
 abbrev pub reply : List Answer → Answer → Reply
-reply inside a = record { inside = inside; answer = a }
+reply inside a = record { inside = inside; accepted = numberAccepted inside; answer = a }
 
 -- "The walk reads each chunk in turn over what the one before it left, just as that chunk is read by itself. A refused chunk doesn't end
--- the walk; 1, 12 and 13 do. Size is checked after both numbers are read, then the lent buffers (2, which also ends the walk)".
--- One that ends in 12 or 13 "leaves what the chunks accepted before it made"
+-- the walk; 1, 12 and 13 do". One that ends in 12 or 13 "leaves what the chunks accepted before it made"
 abbrev pub readAll : Size → Chunks → Board → Left Reply
 readAll z cs b =
     let ran = inTurn (read z) (map (λ c. c .bytes) (cs .list)) b in
     left (reply (ran .said) (cs .ending)) (ran .board)
 
+-- "Size is checked after both numbers are read, then the lent buffers (2, which also ends the walk)"
+abbrev pub walkChunks : Size → Chunks → Board → Left Reply
+walkChunks z cs b = checked (fault z (exact z b)) (λ a. left (reply [] a) b) (readAll z cs b)
+
 abbrev pub walkFeed : Feed → Board → Left Reply
 walkFeed (broken a) b = left (reply [] a) b
-walkFeed (sized z cs) b = checked (fault z (exact z b)) (λ a. left (reply [] a) b) (readAll z cs b)
+walkFeed (sized z cs) b = walkChunks z cs b
 
 unfoldable pub walk : List ℕ → Board → Left Reply
 walk s b = walkFeed (feedOf s) b
+
+-- "a run lent without size numbers": lengths and chunks as they stand behind the size numbers of a feed, with places from its own first byte
+abbrev pub chunksOf : List ℕ → Chunks
+chunksOf s = chunksFrom (length s) s 0
+
+unfoldable pub walkRun : Size → List ℕ → Board → Left Reply
+walkRun z s b = walkChunks z (chunksOf s) b
+
+-- what it answers with: the walk's own answer, and the number accepted, which is 0 on 1 and 2, where no chunk is read
+abbrev pub tally : Reply → Tally
+tally r = record { answer = r .answer; accepted = r .accepted }
 
 -- One step of it, from a place on: the chunk that stands there is read, and the place after it; or nothing is left to read
 abbrev pub stepBy : Size → List ℕ → Next → Board → Left Step

@@ -23,7 +23,7 @@ use Rattle.spec.specs.Chunks as Chunks
 use Rattle.spec.specs.Boards.{Left, board, read, inTurn}
 use Rattle.spec.specs.Writing.{Wrote, opcodes, chunkFor, write}
 use Rattle.spec.specs.Writing as Writing
-use Rattle.spec.specs.Feeds.{varintAt, Placed, chunksFrom, Reply}
+use Rattle.spec.specs.Feeds.{varintAt, Placed, chunksFrom, Reply, walkRun}
 use Rattle.spec.specs.Feeds as Feeds
 use Rattle.spec.specs.Calls.{Call, call, run}
 use Rattle.spec.specs.Listing.{ascii, listing}
@@ -39,6 +39,8 @@ pub data Row : Type 0 where
   lastGiven : ℕ → List ℕ → List ℕ → Row
   -- size, the lengths of the lent picture and map: what reading an empty chunk answers
   readLengths : ℕ → ℕ → ℕ → ℕ → ℕ → Row
+  -- the same of a run of one empty chunk
+  runLengths : ℕ → ℕ → ℕ → ℕ → Reply → Row
   -- size, the lengths of the old and the new picture: what writing to an empty output answers
   writeLengths : ℕ → ℕ → ℕ → ℕ → ℕ → Row
   -- size, a map: what fresh map and count answer, the map that is left, and the count
@@ -66,7 +68,7 @@ abbrev pub sameAnswer : Answer → Answer → Bool
 sameAnswer x y = eqb (x .number) (y .number) && eqb (x .place) (y .place)
 
 abbrev pub sameReply : Reply → Reply → Bool
-sameReply x y = sameBy sameAnswer (x .inside) (y .inside) && sameAnswer (x .answer) (y .answer)
+sameReply x y = sameBy sameAnswer (x .inside) (y .inside) && eqb (x .accepted) (y .accepted) && sameAnswer (x .answer) (y .answer)
 
 abbrev pub isLeft : Left (List Reply) → List Reply → List ℕ → List ℕ → ℕ → Bool
 isLeft l replies pic m n =
@@ -101,13 +103,14 @@ unfolding if fuelled checked Sizes.side Sizes.fault Pictures.place Pictures.bloc
     Chunks.put Chunks.missing Chunks.body Chunks.countAt Chunks.bodyAt Chunks.opcode Chunks.blocksBy Chunks.extend Chunks.stored Chunks.step Chunks.finish Chunks.loop Chunks.decode
     read inTurn Writing.insert Writing.colours Writing.entries Writing.entryOf Writing.tabled Writing.single Writing.counting Writing.plain
     Writing.opcodeFor Writing.alike Writing.opcodes Writing.encode Writing.difference Writing.differences Writing.emit Writing.write
-    Feeds.groups Feeds.varintAt Feeds.nextAt Feeds.chunksFrom Feeds.sizeNumbers Feeds.feedOf Feeds.walk call
+    Feeds.groups Feeds.varintAt Feeds.nextAt Feeds.chunksFrom Feeds.sizeNumbers Feeds.feedOf Feeds.walk Feeds.walkRun call
     Listing.decide Listing.higherDigits Listing.decimal Listing.stepLine Listing.chunkLines Listing.listing
 holds (octet bs x y) = eqb (upper24 bs) x && eqb (lower24 bs) y
 holds (sequence w h start calls replies pic m n) =
     isLeft (run (size w h) calls (board start (fresh (blocks (size w h))))) replies pic m n
 holds (lastGiven n s px) = lastIs (decode n s) n px
 holds (readLengths w h pixels entries e) = sameAnswer (read (size w h) [] (board (of pixels 0) (of entries 0)) .said) (answer e 0)
+holds (runLengths w h pixels entries r) = sameReply (walkRun (size w h) (0 ∷ []) (board (of pixels 0) (of entries 0)) .said) r
 holds (writeLengths w h old new e) = isWrote (write (size w h) (of old 0) (of new 0) []) (answer e 0) []
 holds (maps w h m e after n) =
     let z = size w h in

@@ -88,6 +88,13 @@ pub struct Count {
     pub unsettled: usize,
 }
 
+// What a walk of a run of chunks answers: the walk's own answer, and how many of the chunks were accepted.
+#[repr(C)]
+pub struct Tally {
+    pub answer: Answer,
+    pub accepted: usize,
+}
+
 // A house number, a varint, as it is read at a place.
 pub enum Varint {
     // 12 or 13

@@ -1,5 +1,6 @@
 pub mod Meanings
 pub mod Refusals
 pub mod Demand3
+pub mod Runs
 pub mod Turns
 pub mod RoundTrip

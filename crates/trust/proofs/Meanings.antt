@@ -13,8 +13,8 @@ use Rattle.spec.specs.Pictures.{Origin, Covers}
 use Rattle.spec.specs.Maps.{compose, unchanged}
 use Rattle.spec.specs.Chunks.{Outcome, refused, accepted, decode, verdict}
 use Rattle.spec.specs.Boards.{Board, board, Left, left, Exact, exact, paintBoard, effect, read, inTurn}
-use Rattle.spec.specs.Feeds.{Chunks, Feed, broken, sized, feedOf, reply, readAll, walk}
-use Rattle.spec.specs.Calls.{Call, reading, walking, call, run}
+use Rattle.spec.specs.Feeds.{Chunks, Feed, broken, sized, feedOf, reply, readAll, walkChunks, walk, chunksOf, walkRun}
+use Rattle.spec.specs.Calls.{Call, reading, walking, walkingRun, call, run}
 use Rattle.spec.proofs.Lists.{every-all, every-weaken}
 use Rattle.spec.proofs.Limits.{allowed-size, area}
 use Rattle.spec.proofs.Blocks.{paint-unchanged}
@@ -88,12 +88,12 @@ module _ (z : Size) (fine : allowed z ≡ true) where
             leaves = λ b x. ap (λ l. l .board) (is (accepted os) e b x);
           }
 
-  -- walking a feed of the size: its chunks in turn
-  walk-its-size : (s : List ℕ) (cs : Chunks) → feedOf s ≡ sized z cs → Means z (walk s)
-  unfolding walk checked
-  walk-its-size s cs e =
+  -- walking chunks at the size, in turn: those of a run, and those of a feed of the size
+  chunks-mean : (cs : Chunks) → Means z (walkChunks z cs)
+  unfolding checked
+  chunks-mean cs =
       let m = inTurn-means (read z) (every-all (map (λ c. c .bytes) (cs .list)) read-means) in
-      let is : (b : Board) → Exact z b → walk s b ≡ readAll z cs b = λ b x. rw (e, no-fault z fine b x) in
+      let is : (b : Board) → Exact z b → walkChunks z cs b ≡ readAll z cs b = λ b x. rw (no-fault z fine b x) in
       record {
         said = reply (m .said) (cs .ending);
         origins = m .origins;
@@ -101,6 +101,25 @@ module _ (z : Size) (fine : allowed z ≡ true) where
         says = λ b x. ap (λ l. l .said) (is b x) ∙ ap (λ a. reply a (cs .ending)) (m .says b x);
         leaves = λ b x. ap (λ l. l .board) (is b x) ∙ m .leaves b x;
       }
+
+  -- a call that does what another does
+  means-as : {R : Type 0} {f g : Board → Left R} → ((b : Board) → f b ≡ g b) → Means z g → Means z f
+  means-as h m =
+      record {
+        said = m .said;
+        origins = m .origins;
+        covers = m .covers;
+        says = λ b x. ap (λ l. l .said) (h b) ∙ m .says b x;
+        leaves = λ b x. ap (λ l. l .board) (h b) ∙ m .leaves b x;
+      }
+
+  pub walk-run-means : (s : List ℕ) → Means z (walkRun z s)
+  unfolding walkRun
+  walk-run-means s = means-as (λ b. refl) (chunks-mean (chunksOf s))
+
+  walk-its-size : (s : List ℕ) (cs : Chunks) → feedOf s ≡ sized z cs → Means z (walk s)
+  unfolding walk
+  walk-its-size s cs e = means-as (λ b. rw e) (chunks-mean cs)
 
   -- or one whose walk reads no chunk
   none-said : (y : Size) (ss : List (List ℕ)) (a : Answer) (b : Board) → inTurn (read y) ss b .said ≡ []
@@ -138,7 +157,8 @@ module _ (z : Size) (fine : allowed z ≡ true) where
   call-means (reading s) u =
       let m = read-means s in
       record { said = reply [] (m .said); origins = m .origins; covers = m .covers; says = λ b x. ap (reply []) (m .says b x); leaves = m .leaves }
-  call-means (walking s) f = let m = walk-means s f in record { said = m .said; origins = m .origins; covers = m .covers; says = m .says; leaves = m .leaves }
+  call-means (walking s) f = means-as (λ b. refl) (walk-means s f)
+  call-means (walkingRun s) u = means-as (λ b. refl) (walk-run-means s)
 
   pub run-means : (calls : List Call) → Every (CallFor z) calls → Means z (run z calls)
   run-means calls us = inTurn-means (call z) (every-weaken call-means us)

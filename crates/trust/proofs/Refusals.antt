@@ -14,8 +14,8 @@ use Rattle.spec.specs.Maps.{MapLeft, mapFault, freshMap, fresh}
 use Rattle.spec.specs.Chunks.{Outcome, refused, accepted, decode, verdict}
 use Rattle.spec.specs.Boards.{Board, Left, left, exact, effect, read}
 use Rattle.spec.specs.Writing.{Wrote, emit, write}
-use Rattle.spec.specs.Feeds.{chunksFrom, sizeNumbers, broken, withChunks, feedOf, Reply, reply, walkFeed, walk}
-use Rattle.spec.specs.Calls.{Call, reading, walking, call}
+use Rattle.spec.specs.Feeds.{chunksFrom, sizeNumbers, broken, withChunks, feedOf, Reply, reply, walkChunks, walkFeed, walk, walkRun}
+use Rattle.spec.specs.Calls.{Call, reading, walking, walkingRun, call}
 use Rattle.spec.proofs.Lists.{by-test, by-checked}
 use Rattle.spec.proofs.Varints.{badly, short}
 use Rattle.spec.proofs.Feeds.{Ends, whole, cut, ends-chunks}
@@ -41,14 +41,22 @@ kept-ending n x b whole p q r = absurd (p refl)
 kept-ending n x b (cut badly) p q r = absurd (q refl)
 kept-ending n x b (cut short) p q r = absurd (r refl)
 
+-- the chunks of s from a place on
+refused-chunks : (z : Size) (s : List ℕ) (first : ℕ) (b : Board) → Kept b (walkChunks z (chunksFrom (length s) s first) b)
+refused-chunks z s first b =
+    by-checked (Kept b) _ (λ a p q r. refl) (kept-ending (chunksFrom (length s) s first .ending .number) _ b (ends-chunks (length s) s first))
+
 refused-walk : (s : List ℕ) (b : Board) → Kept b (walk s b)
 unfolding walk feedOf
 refused-walk s b = by (sizeNumbers s)
   where
     by : (x : SizeNumbers) → Kept b (walkFeed (withChunks s x) b)
     by (Broken a) = λ p q r. refl
-    by (Sized z first) =
-        by-checked (Kept b) _ (λ a p q r. refl) (kept-ending (chunksFrom (length s) s first .ending .number) _ b (ends-chunks (length s) s first))
+    by (Sized z first) = refused-chunks z s first b
+
+refused-run : (z : Size) (s : List ℕ) (b : Board) → Kept b (walkRun z s b)
+unfolding walkRun
+refused-run z s b = refused-chunks z s 0 b
 
 -- a refused call changes nothing: 1, 2 and a chunk's own refusals. A walk that ends in 12 or 13 keeps what its chunks made
 pub refused-call : (z : Size) (a : Call) (b : Board)
@@ -57,6 +65,7 @@ pub refused-call : (z : Size) (a : Call) (b : Board)
 unfolding call
 refused-call z (reading s) b = λ p q r. refused-read z s b p
 refused-call z (walking s) b = refused-walk s b
+refused-call z (walkingRun s) b = refused-run z s b
 
 -- size numbers that fail, with 12 or 13, leave the board too
 pub refused-size : (s : List ℕ) (a : Answer) (b : Board) → feedOf s ≡ broken a → walk s b ≡ left (reply [] a) b

@@ -12,10 +12,11 @@ use Rattle.spec.specs.Pictures.{blockAt}
 use Rattle.spec.specs.Maps.{settled, freshMap, countMap}
 use Rattle.spec.specs.Boards.{Board, board, Left, Exact}
 use Rattle.spec.specs.Feeds.{Chunks, sized, feedOf, Reply, walk}
-use Rattle.spec.specs.Calls.{Call, reading, walking, run}
+use Rattle.spec.specs.Calls.{Call, reading, walking, walkingRun, run}
 
 -- What it speaks of is what the contracts of the running functions cite: `freshMap` (board_map::fresh_map), `countMap`
--- (board_map::count_unsettled), and in `call` the definitions `read` (smc::read_chunk) and `walk` (feed::walk_feed).
+-- (board_map::count_unsettled), and in `call` the definitions `read` (smc::read_chunk), `walk` (feed::walk_feed) and `walkRun`
+-- (feed::walk_run).
 
 -- "a picture and a map of exactly its lengths", "One byte a pixel": the map may hold any numbers, it is made fresh first
 pub record IsStart (z : Size) (b : Board) : Type 0 where
@@ -27,10 +28,11 @@ pub data FeedFor (z : Size) (s : List ℕ) : Type 0 where
   itsSize : (cs : Chunks) → feedOf s ≡ sized z cs → FeedFor z s
   noneRead : ((b : Board) → Exact z b → walk s b .said .inside ≡ []) → FeedFor z s
 
--- "A chunk is read at that size", so any chunk will do
+-- "A chunk is read at that size", so any chunk will do, and any run of chunks
 abbrev pub CallFor : Size → Call → Type 0
 CallFor z (reading s) = Unit {0}
 CallFor z (walking s) = FeedFor z s
+CallFor z (walkingRun s) = Unit {0}
 
 -- a sequence of calls on a starting board, from a fresh map
 abbrev pub ran : Size → List Call → Board → Left (List Reply)
@@ -45,7 +47,7 @@ entryAt z calls p k = getD (ran z calls p .board .map) k 0
 
 -- the claim for one sequence and two starting boards
 pub record Alike (z : Size) (calls : List Call) (p q : Board) : Type 0 where
-  -- equal answers, those of the chunks inside a walk among them, equal maps, and equal counts
+  -- equal answers, those of the chunks inside a walk and the number accepted among them, equal maps, and equal counts
   pub answers : ran z calls p .said ≡ ran z calls q .said
   pub maps : ran z calls p .board .map ≡ ran z calls q .board .map
   pub counts : countMap z (ran z calls p .board .map) ≡ countMap z (ran z calls q .board .map)

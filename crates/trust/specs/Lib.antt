@@ -1,3 +1,4 @@
 pub mod Means
 pub mod Demand
+pub mod Runs
 pub mod RoundTrip

@@ -4,16 +4,17 @@
 use std::fmt::{Debug, Display};
 use std::hint::black_box;
 
-use seatboard::exact::{self, Answer, Count};
+use seatboard::exact::{self, Answer, Count, Tally};
 use seatboard::Size;
 use second::reader::{self, pixel_blocks, Refusal, Step};
 use second::sprite::{self, Frame};
-use second::walk::{self, Walk};
+use second::walk::{self, ChunkRead, Walk};
 use second::writer::{self, Chunk};
 
-use crate::feeds::FeedCase;
+use crate::feeds::{self, FeedCase};
 use crate::generate::{Board, Case, SETTLED};
 use crate::pictures::WriteCase;
+use crate::runs::RunCase;
 use crate::symbols::{Placed, SymbolCase};
 
 /// One of the two that are compared.
@@ -22,6 +23,7 @@ pub struct Codec {
     pub count: fn(Size, &mut [u16]) -> Count,
     pub read_chunk: fn(Size, &[u8], &mut [u8], &mut [u16]) -> Answer,
     pub walk_feed: fn(&[u8], &mut [u8], &mut [u16]) -> Answer,
+    pub walk_run: fn(Size, &[u8], &mut [u8], &mut [u16]) -> Tally,
     /// Old picture, new picture, output: the pictures too, so that a change of them is found.
     pub write_chunk: fn(Size, &mut [u8], &mut [u8], &mut [u8]) -> Answer,
     /// Picture, file: the file too, so that a change of it is found.
@@ -37,6 +39,7 @@ pub const LIBRARY: Codec = Codec {
     },
     read_chunk: exact::read_chunk,
     walk_feed: exact::walk_feed,
+    walk_run: exact::walk_run,
     write_chunk: |size, old, new, output| {
         let answer = exact::write_chunk(size, old, new, output);
         perhaps_changed(old);
@@ -70,6 +73,14 @@ pub const SECOND: Codec = Codec {
         answer(&reading, chunk.len())
     },
     walk_feed: |feed, picture, map| walk_answer(&walk::walk(feed, picture, map)),
+    walk_run: |size, run, picture, map| {
+        run_tally(&walk::walk_run(
+            (size.width, size.height),
+            run,
+            picture,
+            map,
+        ))
+    },
     write_chunk: |size, old, new, output| {
         let written = writer::write_chunk((size.width, size.height), old, new, output);
         write_answer(&written)
@@ -91,6 +102,13 @@ fn answer<T>(reading: &Result<T, Refusal>, accepted_place: usize) -> Answer {
 fn walk_answer(walk: &Walk) -> Answer {
     let (number, place) = walk.number_and_place();
     Answer { number, place }
+}
+
+fn run_tally(walk: &Walk) -> Tally {
+    Tally {
+        answer: walk_answer(walk),
+        accepted: walk.accepted(),
+    }
 }
 
 /// 01: for the writer's 0 the place is the length written.
@@ -310,6 +328,62 @@ pub fn walk_feed(FeedCase { board, feed }: &FeedCase) -> FeedComparison {
         walk,
         changed,
     }
+}
+
+/// The differences between the two on one run, and between ours and other ways to hand over its
+/// chunks, with the second walk itself.
+pub struct RunComparison {
+    pub differences: Vec<String>,
+    pub walk: Walk,
+}
+
+pub fn walk_run(case: &RunCase) -> RunComparison {
+    let RunCase { board, run } = case;
+    let Size { width, height } = board.size;
+    let ours = Outcome::of(board, |picture, map| {
+        (LIBRARY.walk_run)(board.size, run, picture, map)
+    });
+    let mut walked = None;
+    let theirs = Outcome::of(board, |picture, map| {
+        let walk = walk::walk_run((width, height), run, picture, map);
+        run_tally(walked.insert(walk))
+    });
+    let walk = walked.expect("the second walk was called");
+    let mut differences = ours.differences(&theirs, ["ours", "second walk's"]);
+    differences.extend(ours.differences(&singly(case, &walk), ["ours", "singly"]));
+    if let Some(numbers) = feeds::size_numbers(board.size) {
+        let as_feed = behind(&numbers, case, ours.answer.accepted);
+        differences.extend(ours.differences(&as_feed, ["ours", "as a feed"]));
+    }
+    RunComparison { differences, walk }
+}
+
+/// 02: it must equal handing them over singly. All chunks before the end that the second walk
+/// found, each read by ours.
+fn singly(RunCase { board, run }: &RunCase, walk: &Walk) -> Outcome<Tally> {
+    Outcome::of(board, |picture, map| {
+        let read = |chunk: &&ChunkRead| {
+            let chunk = &run[chunk.first..][..chunk.length];
+            (LIBRARY.read_chunk)(board.size, chunk, picture, map).number == 0
+        };
+        Tally {
+            answer: walk_answer(walk),
+            accepted: walk.chunks.iter().filter(read).count(),
+        }
+    })
+}
+
+/// Ours on the feed that is the run behind these size numbers, with places as the run has them. A
+/// feed's walk does not say how many it accepted.
+fn behind(numbers: &[u8], RunCase { board, run }: &RunCase, accepted: usize) -> Outcome<Tally> {
+    let feed = [numbers, run].concat();
+    Outcome::of(board, |picture, map| {
+        let mut answer = (LIBRARY.walk_feed)(&feed, picture, map);
+        if !matches!(answer.number, 1 | 2) {
+            answer.place = answer.place.wrapping_sub(numbers.len());
+        }
+        Tally { answer, accepted }
+    })
 }
 
 /// The differences between the two on one write, with the second writer's own chunk.

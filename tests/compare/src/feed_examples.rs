@@ -48,17 +48,18 @@ pub const LISTING: &[u8] = &[
 ];
 
 /// Both blocks of colour 5, with the length in front.
-const FIVES: [u8; 7] = [6, 0xE1, 0, 0, 6, 0x61, 5];
+pub const FIVES: [u8; 7] = [6, 0xE1, 0, 0, 6, 0x61, 5];
+/// Block 0 filled with 9, and block 0 copied to block 1, with their lengths in front.
+pub const NINE: [u8; 8] = [7, 0xE1, 0, 0, 7, 0x60, 9, 0x00];
+pub const COPIED: [u8; 7] = [6, 0xE1, 0, 0, 6, 0x00, 0x20];
 
 fn whole_feeds() -> Vec<Example> {
     let full = Example {
         size: FULL,
         ..unchanged(&[80, 50], (0, 2))
     };
-    // Block 0 filled, then copied to block 1: the second chunk sees what the first one left.
-    let nine = [7, 0xE1, 0, 0, 7, 0x60, 9, 0x00];
-    let copied = [6, 0xE1, 0, 0, 6, 0x00, 0x20];
-    let one_after_other = [&[2, 1], &nine[..], &copied].concat();
+    // The second chunk sees what the first one left.
+    let one_after_other = [&[2, 1], &NINE[..], &COPIED].concat();
     // A length of 300, AC 02, whose chunk states 0 and is refused.
     let three_hundred = [&[2, 1, 0xAC, 2], &[0; 300][..], &FIVES].concat();
     // 4x8 has buffers of the same lengths; there block 0 is the first sixteen pixels.
@@ -79,21 +80,23 @@ fn whole_feeds() -> Vec<Example> {
     ]
 }
 
+/// Numbers at the end of a feed or run, and how they fail.
+pub const FAILING: [(&[u8], u8); 11] = [
+    (&[0x80, 0x80, 0x80, 0x80], 12),
+    (&[0x80, 0x80, 0x80, 0x80, 0], 12),
+    (&[0x81, 0x80, 0x80, 0x80, 0x80, 0], 12),
+    (&[0x80, 0x80, 0x80], 13),
+    (&[0x80, 0x80], 13),
+    (&[0xFF], 13),
+    (&[0x80, 0], 12),
+    (&[0x81, 0x80, 0], 12),
+    (&[0x81, 0x80, 0x80, 0], 12),
+    (&[0x80, 0x80, 0x80, 8], 12),
+    (&[0xFF, 0xFF, 0xFF, 0x7F], 12),
+];
+
 /// The same number at each of the three places, where it fails in the same way.
 fn failing_numbers() -> Vec<Example> {
-    let numbers: [(&[u8], u8); 11] = [
-        (&[0x80, 0x80, 0x80, 0x80], 12),
-        (&[0x80, 0x80, 0x80, 0x80, 0], 12),
-        (&[0x81, 0x80, 0x80, 0x80, 0x80, 0], 12),
-        (&[0x80, 0x80, 0x80], 13),
-        (&[0x80, 0x80], 13),
-        (&[0xFF], 13),
-        (&[0x80, 0], 12),
-        (&[0x81, 0x80, 0], 12),
-        (&[0x81, 0x80, 0x80, 0], 12),
-        (&[0x80, 0x80, 0x80, 8], 12),
-        (&[0xFF, 0xFF, 0xFF, 0x7F], 12),
-    ];
     let all_places = |(number, fails): (&[u8], u8)| {
         let after_chunk = [&[2, 1], &FIVES[..], number].concat();
         [
@@ -103,7 +106,7 @@ fn failing_numbers() -> Vec<Example> {
             changed(&after_chunk, (fails, 9), &[5; 32], [SETTLED; 2]),
         ]
     };
-    let mut examples: Vec<Example> = numbers.into_iter().flat_map(all_places).collect();
+    let mut examples: Vec<Example> = FAILING.into_iter().flat_map(all_places).collect();
     examples.push(unchanged(&[], (13, 0)));
     examples.push(unchanged(&[2], (13, 1)));
     examples

@@ -191,7 +191,7 @@ fn chunks(case: &FeedCase, compared: &FeedComparison) -> [Thing; 7] {
     ]
 }
 
-fn refused_between(chunks: &[ChunkRead]) -> bool {
+pub fn refused_between(chunks: &[ChunkRead]) -> bool {
     let accepted = |chunk: &ChunkRead| chunk.number == 0;
     let first = chunks.iter().position(accepted);
     let last = chunks.iter().rposition(accepted);

@@ -1,6 +1,6 @@
 //! The feeds: size numbers and chunks, whole and damaged, with the buffers lent for the walk. It
 //! knows how a feed is laid out from paper 01 and shares nothing with the second walk, which
-//! alone says what is right.
+//! alone says what is right. Runs (runs.rs) are made of the same parts.
 
 use seatboard::Size;
 
@@ -95,7 +95,7 @@ pub fn long_cases(seed: u64) -> Vec<FeedCase> {
 fn whole_case(random: &mut Random, size: Size, chunks: Vec<Vec<u8>>) -> FeedCase {
     FeedCase {
         board: generate::fitting_board(random, size),
-        feed: Parts::new(in_blocks(size), chunks).0.concat(),
+        feed: Parts::feed(in_blocks(size), chunks).parts.concat(),
     }
 }
 
@@ -117,6 +117,14 @@ fn in_blocks(size: Size) -> (usize, usize) {
     (size.width / 4, size.height / 4)
 }
 
+/// The numbers that say this size, allowed or not, if there are such.
+pub fn size_numbers(size: Size) -> Option<Vec<u8>> {
+    let (across, down) = in_blocks(size);
+    let sayable =
+        (4 * across, 4 * down) == (size.width, size.height) && across.max(down) <= GREATEST;
+    sayable.then(|| [shortest(across), shortest(down)].concat())
+}
+
 /// Chunks for that size; the feed states it or another, and the buffers need not fit.
 pub fn any_case(random: &mut Random, size: Size) -> FeedCase {
     let right = in_blocks(size);
@@ -136,11 +144,11 @@ pub fn any_case(random: &mut Random, size: Size) -> FeedCase {
         7 | 8 => (right, generate::board_of_wrong_lengths(random, size)),
         _ => (right, generate::fitting_board(random, size)),
     };
-    let parts = Parts::new(stated, any_chunks(random, size));
+    let parts = Parts::feed(stated, any_chunks(random, size));
     let feed = if random.one_in(40) {
         noise(random)
     } else {
-        any_feed(random, parts)
+        parts.perhaps_damaged(random)
     };
     FeedCase { board, feed }
 }
@@ -186,7 +194,7 @@ fn as_many_blocks(random: &mut Random, (across, down): (usize, usize)) -> (usize
     random.pick(&sizes)
 }
 
-fn any_chunks(random: &mut Random, size: Size) -> Vec<Vec<u8>> {
+pub fn any_chunks(random: &mut Random, size: Size) -> Vec<Vec<u8>> {
     let small = size.width * size.height <= 1_024;
     let chunks = if small && random.one_in(8) {
         random.between(8, 40)
@@ -214,88 +222,106 @@ fn noise(random: &mut Random) -> Vec<u8> {
     feed
 }
 
-fn any_feed(random: &mut Random, mut parts: Parts) -> Vec<u8> {
-    match random.below(32) {
-        0..=6 => parts.spoil_number(random),
-        7..=11 => parts.cut_number(random),
-        12..=15 => parts.cut_chunk(random),
-        16 | 17 => parts.misstate_length(random),
-        _ => {}
-    }
-    let mut feed = parts.0.concat();
-    if feed.is_empty() {
-        return feed;
-    }
-    match random.below(24) {
-        0 => feed.truncate(random.below(feed.len())),
-        1 => generate::flip_bits(random, &mut feed),
-        2 => {
-            feed.remove(random.below(feed.len()));
-        }
-        3 => feed.insert(random.between(0, feed.len()), random.byte()),
-        _ => {}
-    }
-    feed
+/// What a feed or run is made of, in order: the two size numbers, of a feed alone, then each chunk's
+/// length and the chunk.
+pub struct Parts {
+    parts: Vec<Vec<u8>>,
+    /// How many of them are size numbers.
+    sizes: usize,
 }
 
-/// A feed's parts in order: the two size numbers, then each chunk's length and the chunk.
-struct Parts(Vec<Vec<u8>>);
-
 impl Parts {
-    fn new((across, down): (usize, usize), chunks: Vec<Vec<u8>>) -> Self {
-        let mut parts = vec![shortest(across), shortest(down)];
-        for chunk in chunks {
-            parts.push(shortest(chunk.len()));
-            parts.push(chunk);
+    fn feed((across, down): (usize, usize), chunks: Vec<Vec<u8>>) -> Self {
+        let Parts { mut parts, .. } = Parts::run(chunks);
+        parts.splice(..0, [shortest(across), shortest(down)]);
+        Parts { parts, sizes: 2 }
+    }
+
+    pub fn run(chunks: Vec<Vec<u8>>) -> Self {
+        let behind_length = |chunk: Vec<u8>| [shortest(chunk.len()), chunk];
+        Parts {
+            parts: chunks.into_iter().flat_map(behind_length).collect(),
+            sizes: 0,
         }
-        Parts(parts)
+    }
+
+    /// The bytes, as they should be or damaged.
+    pub fn perhaps_damaged(mut self, random: &mut Random) -> Vec<u8> {
+        match random.below(32) {
+            0..=6 => self.spoil_number(random),
+            7..=11 => self.cut_number(random),
+            12..=15 => self.cut_chunk(random),
+            16 | 17 => self.misstate_length(random),
+            _ => {}
+        }
+        let mut bytes = self.parts.concat();
+        if bytes.is_empty() {
+            return bytes;
+        }
+        match random.below(24) {
+            0 => bytes.truncate(random.below(bytes.len())),
+            1 => generate::flip_bits(random, &mut bytes),
+            2 => {
+                bytes.remove(random.below(bytes.len()));
+            }
+            3 => bytes.insert(random.between(0, bytes.len()), random.byte()),
+            _ => {}
+        }
+        bytes
     }
 
     /// Which part is the length of some chunk, if there is one.
     fn some_length(&self, random: &mut Random) -> Option<usize> {
-        let chunks = (self.0.len() - 2) / 2;
-        (chunks > 0).then(|| 2 + 2 * random.below(chunks))
+        let chunks = (self.parts.len() - self.sizes) / 2;
+        (chunks > 0).then(|| self.sizes + 2 * random.below(chunks))
     }
 
-    /// Which part is some number: as often a length as a size number.
-    fn some_number(&self, random: &mut Random) -> usize {
-        let size_number = random.below(2);
-        if random.one_in(2) {
-            return size_number;
+    /// Which part is some number, if there is one: as often a length as a size number.
+    fn some_number(&self, random: &mut Random) -> Option<usize> {
+        if self.sizes == 0 {
+            return self.some_length(random);
         }
-        self.some_length(random).unwrap_or(size_number)
+        let size_number = random.below(self.sizes);
+        if random.one_in(2) {
+            return Some(size_number);
+        }
+        self.some_length(random).or(Some(size_number))
     }
 
     fn spoil_number(&mut self, random: &mut Random) {
-        let which = self.some_number(random);
+        let Some(which) = self.some_number(random) else {
+            return;
+        };
         let right = self.value(which);
-        self.0[which] = badly_formed(random, right);
+        self.parts[which] = badly_formed(random, right);
         if random.one_in(3) {
-            self.0.truncate(which + 1);
+            self.parts.truncate(which + 1);
         }
     }
 
     fn value(&self, which: usize) -> usize {
-        let groups = self.0[which].iter().rev();
+        let groups = self.parts[which].iter().rev();
         groups.fold(0, |value, group| value << 7 | usize::from(group & 0x7F))
     }
 
-    /// The feed ends inside a number, or where a size number should begin.
+    /// The bytes end inside a number, or where a size number should begin.
     fn cut_number(&mut self, random: &mut Random) {
-        let which = self.some_number(random);
+        let Some(which) = self.some_number(random) else {
+            return;
+        };
         let mut groups = in_groups(self.value(which), 4);
-        let least = if which < 2 { 0 } else { 1 };
+        let least = if which < self.sizes { 0 } else { 1 };
         groups.truncate(random.between(least, 3));
-        self.0[which] = groups;
-        self.0.truncate(which + 1);
+        self.parts[which] = groups;
+        self.parts.truncate(which + 1);
     }
 
-    /// The feed ends inside a chunk, often where its first byte should be.
+    /// The bytes end inside a chunk, often where its first byte should be.
     fn cut_chunk(&mut self, random: &mut Random) {
         let Some(length) = self.some_length(random) else {
             return;
         };
-        let chunk = &mut self.0[length + 1];
+        let chunk = &mut self.parts[length + 1];
         match random.below(3) {
             0 => chunk.clear(),
             1 => {
@@ -303,7 +329,7 @@ impl Parts {
             }
             _ => chunk.truncate(random.between(0, chunk.len())),
         }
-        self.0.truncate(length + 2);
+        self.parts.truncate(length + 2);
     }
 
     fn misstate_length(&mut self, random: &mut Random) {
@@ -320,7 +346,7 @@ impl Parts {
             right + 65_536,
             GREATEST,
         ];
-        self.0[length] = shortest(random.pick(&wrong));
+        self.parts[length] = shortest(random.pick(&wrong));
     }
 }
 

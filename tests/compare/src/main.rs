@@ -1,28 +1,30 @@
 //! Compares the library under test with an independent second reader and writer of SMC chunks, a
-//! second walk of the house feed and a second painter of symbols, and the board program with a
-//! second listing; and tries demand 3 on two boards.
+//! second walk of the house feed and of runs of chunks, and a second painter of symbols, and the
+//! board program with a second listing; and tries demand 3 on two boards.
 //!
 //! The library is called through the package `seatboard`; the second ones are the package `second`.
-//! generate.rs makes boards and chunks, feeds.rs feeds of them, pictures.rs pairs of pictures to
-//! write, symbols.rs symbols to paint from the files of sprites.rs, right and wrong; compare.rs
-//! gives each to both and compares the answer and all that was lent; tally.rs, feed_tally.rs,
-//! write_tally.rs and symbol_tally.rs count what they had in them; examples.rs, feed_examples.rs,
-//! write_examples.rs and symbol_examples.rs try both on paper 01's examples and on others made by
-//! hand, and drawings.rs on the symbols in examples/. Each chunk written is read back by both
-//! readers. program.rs runs the board program, on the cases of program_cases.rs and on random feeds
-//! (listings.rs). sequences.rs makes sequences of calls, and two_boards.rs runs them.
+//! generate.rs makes boards and chunks, feeds.rs feeds of them, runs.rs runs, pictures.rs pairs of
+//! pictures to write, symbols.rs symbols to paint from the files of sprites.rs, right and wrong;
+//! compare.rs gives each to both and compares the answer and all that was lent; tally.rs,
+//! feed_tally.rs, run_tally.rs, write_tally.rs and symbol_tally.rs count what they had in them;
+//! examples.rs, feed_examples.rs, run_examples.rs, write_examples.rs and symbol_examples.rs try both
+//! on paper 01's examples and on others made by hand, and drawings.rs on the symbols in examples/.
+//! Each chunk written is read back by both readers, and each run is also handed over chunk by chunk
+//! and behind size numbers. program.rs runs the board program, on the cases of program_cases.rs and
+//! on random feeds (listings.rs). sequences.rs makes sequences of calls, and two_boards.rs runs them.
 //!
 //! From the repository's root, with the library in target/lib or in $SEATBOARD_LIB and the board
 //! program as target/bin/board or $SEATBOARD_BOARD:
 //!
 //! ```text
 //! cargo run --quiet --release --locked --offline --package compare -- [--seed N] [--chunks N]
-//!     [--feeds N] [--case N | --feed N | --write N | --symbol N | --listing N | --sequence N]
+//!     [--feeds N]
+//!     [--case N | --feed N | --run N | --write N | --symbol N | --listing N | --sequence N]
 //! ```
 //!
-//! `--case N`, `--feed N`, `--write N`, `--symbol N`, `--listing N` and `--sequence N` replay one
-//! chunk, feed, write, symbol, listing or sequence of that seed and print all of it. Each check
-//! prints `ok NAME` or `FAILED NAME: why`; the last line is `N passed, M failed`.
+//! `--case N`, `--feed N`, `--run N`, `--write N`, `--symbol N`, `--listing N` and `--sequence N`
+//! replay one chunk, feed, run, write, symbol, listing or sequence of that seed and print all of it.
+//! Each check prints `ok NAME` or `FAILED NAME: why`; the last line is `N passed, M failed`.
 
 mod compare;
 mod drawings;
@@ -38,6 +40,9 @@ mod program_cases;
 mod random;
 mod replay;
 mod report;
+mod run_examples;
+mod run_tally;
+mod runs;
 mod sequences;
 mod sprites;
 mod symbol_examples;
@@ -58,10 +63,12 @@ use feeds::FeedCase;
 use generate::{Board, Case};
 use pictures::WriteCase;
 use replay::{
-    board_in_short, case_in_short, feed_in_short, sequence_in_short, symbol_in_short,
+    board_in_short, case_in_short, feed_in_short, run_in_short, sequence_in_short, symbol_in_short,
     write_in_short, Replay,
 };
 use report::{compare_each, Report};
+use run_tally::RunTally;
+use runs::RunCase;
 use sequences::Sequence;
 use symbol_tally::SymbolTally;
 use symbols::SymbolCase;
@@ -69,6 +76,7 @@ use tally::{Numbers, Tally, Things};
 use write_tally::WriteTally;
 
 const BOARDS: u64 = 20_000;
+const RUNS: u64 = 20_000;
 const WRITES: u64 = 40_000;
 const SYMBOLS: u64 = 40_000;
 const SEQUENCES: u64 = 20_000;
@@ -89,8 +97,8 @@ fn main() -> ExitCode {
         Ok(options) => options,
         Err(why) => {
             eprintln!(
-                "{why}; known are --seed, --chunks, --feeds, --case, --feed, --write, --symbol, \
-                 --listing and --sequence"
+                "{why}; known are --seed, --chunks, --feeds, --case, --feed, --run, --write, \
+                 --symbol, --listing and --sequence"
             );
             return ExitCode::from(2);
         }
@@ -98,20 +106,16 @@ fn main() -> ExitCode {
     if let Some(replay) = options.replay {
         return replay.run(options.seed);
     }
-    let Options {
-        seed,
-        chunks,
-        feeds,
-        ..
-    } = options;
+    let (seed, chunks, feeds) = (options.seed, options.chunks, options.feeds);
     println!(
-        "seed {seed}, {chunks} chunks, {BOARDS} maps, {feeds} feeds, {WRITES} writes, \
-         {SYMBOLS} symbols, {} listings, {SEQUENCES} sequences on two boards",
+        "seed {seed}, {chunks} chunks, {BOARDS} maps, {feeds} feeds, {RUNS} runs, \
+         {WRITES} writes, {SYMBOLS} symbols, {} listings, {SEQUENCES} sequences on two boards",
         listings::FEEDS
     );
     let mut report = Report::default();
     check_reading(&options, &mut report);
     check_walks(&options, &mut report);
+    check_runs(seed, &mut report);
     check_writes(seed, &mut report);
     check_symbols(seed, &mut report);
     check_program(seed, &mut report);
@@ -177,6 +181,27 @@ fn check_walks(options: &Options, report: &mut Report) {
     report.check_counts("long feeds: lengths", 1, tally.group_counts());
 }
 
+fn check_runs(seed: u64, report: &mut Report) {
+    let examples = run_examples::check(&SECOND);
+    report.check("second walk: runs made by hand", examples);
+    let examples = run_examples::check(&LIBRARY);
+    report.check("library: runs made by hand", examples);
+
+    let mut tally = RunTally::default();
+    let cases = (0..RUNS).map(|number| runs::case(seed, number));
+    let compared = compare_runs(&format!("seed {seed}, run"), cases, &mut tally);
+    report.check("runs compared", compared);
+    report.check_counts("runs: every number", ENOUGH, tally.end_counts());
+    report.check_counts("runs: boards", ENOUGH, tally.board_counts());
+    report.check_counts("runs: 12 and 13", ENOUGH, tally.stop_counts());
+    report.check_counts("runs: chunks", ENOUGH, tally.chunk_counts());
+
+    // Nothing more is asked of what the few long ones have in them than of the feeds.
+    let name = format!("seed {seed}, long run");
+    let compared = compare_runs(&name, runs::long_cases(seed), &mut RunTally::default());
+    report.check("long runs compared", compared);
+}
+
 fn check_writes(seed: u64, report: &mut Report) {
     let examples = write_examples::check(&SECOND);
     report.check("second writer: chunks written out by hand", examples);
@@ -233,11 +258,7 @@ fn check_program(seed: u64, report: &mut Report) {
 fn check_two_boards(seed: u64, report: &mut Report) {
     let mut tally = two_boards::Tally::default();
     let sequences = (0..SEQUENCES).map(|number| sequences::case(seed, number));
-    let contradictions = |sequence: &Sequence| {
-        let (contradictions, things) = two_boards::check(sequence);
-        tally.add(things);
-        contradictions
-    };
+    let contradictions = |sequence: &Sequence| two_boards::check(sequence, &mut tally);
     let name = format!("seed {seed}, sequence");
     let claim = compare_each(&name, sequences, contradictions, sequence_in_short);
     report.check("two boards: demand 3", claim);
@@ -261,6 +282,7 @@ fn options() -> Result<Options, String> {
             "--feeds" => options.feeds = value,
             "--case" => options.replay = Some(Replay::Case(value)),
             "--feed" => options.replay = Some(Replay::Feed(value)),
+            "--run" => options.replay = Some(Replay::Run(value)),
             "--write" => options.replay = Some(Replay::Write(value)),
             "--symbol" => options.replay = Some(Replay::Symbol(value)),
             "--listing" => options.replay = Some(Replay::Listing(value)),
@@ -315,6 +337,19 @@ fn compare_feeds(
         compared.differences
     };
     compare_each(name, cases, differences, feed_in_short)
+}
+
+fn compare_runs(
+    name: &str,
+    cases: impl IntoIterator<Item = RunCase>,
+    tally: &mut RunTally,
+) -> Result<(), String> {
+    let differences = |case: &RunCase| {
+        let compared = compare::walk_run(case);
+        tally.add(case, &compared);
+        compared.differences
+    };
+    compare_each(name, cases, differences, run_in_short)
 }
 
 fn compare_writes(

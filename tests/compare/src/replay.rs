@@ -1,23 +1,27 @@
-//! One chunk, feed, write, symbol, listing or sequence of a run again, with all of it printed.
+//! One case of a comparison again, with all of it printed: a chunk, feed, run, write, symbol,
+//! listing or sequence.
 
 use std::process::ExitCode;
 
 use seatboard::Size;
 use second::listing;
+use second::walk::Walk;
 
 use crate::compare;
 use crate::feeds::{self, FeedCase};
 use crate::generate::{self, Board, Case};
 use crate::pictures::{self, WriteCase};
 use crate::program::{self, Handed};
+use crate::runs::{self, RunCase};
 use crate::sequences::{self, Call, Sequence};
 use crate::symbols::{self, SymbolCase};
-use crate::two_boards;
+use crate::two_boards::{self, Tally};
 
 #[derive(Clone, Copy)]
 pub enum Replay {
     Case(u64),
     Feed(u64),
+    Run(u64),
     Write(u64),
     Symbol(u64),
     Listing(u64),
@@ -29,6 +33,7 @@ impl Replay {
         let differences = match self {
             Replay::Case(number) => chunk(seed, number),
             Replay::Feed(number) => feed(seed, number),
+            Replay::Run(number) => run(seed, number),
             Replay::Write(number) => write(seed, number),
             Replay::Symbol(number) => symbol(seed, number),
             Replay::Listing(number) => listing(seed, number),
@@ -59,11 +64,25 @@ fn feed(seed: u64, number: u64) -> Vec<String> {
     print_board(&format!("seed {seed}, feed {number}"), &case.board);
     println!("feed {:02X?}", case.feed);
     let compared = compare::walk_feed(&case);
-    for chunk in &compared.walk.chunks {
+    print_walk(&compared.walk);
+    compared.differences
+}
+
+fn run(seed: u64, number: u64) -> Vec<String> {
+    let case = runs::case(seed, number);
+    print_board(&format!("seed {seed}, run {number}"), &case.board);
+    println!("run {:02X?}", case.run);
+    let compared = compare::walk_run(&case);
+    print_walk(&compared.walk);
+    println!("{} accepted", compared.walk.accepted());
+    compared.differences
+}
+
+fn print_walk(walk: &Walk) {
+    for chunk in &walk.chunks {
         println!("second walk's {chunk:?}");
     }
-    println!("second walk's end {:?}", compared.walk.end);
-    compared.differences
+    println!("second walk's end {:?}", walk.end);
 }
 
 fn write(seed: u64, number: u64) -> Vec<String> {
@@ -116,9 +135,10 @@ fn sequence(seed: u64, number: u64) -> Vec<String> {
         match call {
             Call::Read(chunk) => println!("chunk {chunk:02X?}"),
             Call::Walk(feed) => println!("feed {feed:02X?}"),
+            Call::Run(run) => println!("run {run:02X?}"),
         }
     }
-    two_boards::check(&sequence).0
+    two_boards::check(&sequence, &mut Tally::default())
 }
 
 fn print_board(name: &str, board: &Board) {
@@ -127,7 +147,7 @@ fn print_board(name: &str, board: &Board) {
     println!("map {:?}", board.map);
 }
 
-/// Bytes of the longest chunk or feed that is shown whole in a report; a replay shows all.
+/// Bytes of the longest chunk, feed or run that is shown whole in a report; a replay shows all.
 const SHORT: usize = 80;
 
 pub fn board_in_short(board: &Board) -> String {
@@ -142,6 +162,10 @@ pub fn case_in_short(Case { board, chunk }: &Case) -> String {
 
 pub fn feed_in_short(FeedCase { board, feed }: &FeedCase) -> String {
     format!("{}, feed {}", board_in_short(board), bytes_in_short(feed))
+}
+
+pub fn run_in_short(RunCase { board, run }: &RunCase) -> String {
+    format!("{}, run {}", board_in_short(board), bytes_in_short(run))
 }
 
 pub fn write_in_short(WriteCase { board, new, output }: &WriteCase) -> String {

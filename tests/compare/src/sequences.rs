@@ -7,12 +7,15 @@ use second::walk;
 use crate::feeds;
 use crate::generate;
 use crate::random::Random;
+use crate::runs;
 
 pub enum Call {
     /// A chunk, at the boards' size.
     Read(Vec<u8>),
     /// A feed for that size, in 01's sense.
     Walk(Vec<u8>),
+    /// A run, at the boards' size.
+    Run(Vec<u8>),
 }
 
 pub struct Sequence {
@@ -62,10 +65,11 @@ fn starting_pictures(random: &mut Random, size: Size) -> [Vec<u8>; 2] {
 }
 
 fn any_call(random: &mut Random, size: Size) -> Call {
-    match random.below(8) {
+    match random.below(10) {
         0..=2 => Call::Read(generate::sparse_chunk(random, size)),
         3..=5 => Call::Read(generate::any_chunk(random, size)),
-        _ => Call::Walk(feed_for(random, size)),
+        6 | 7 => Call::Walk(feed_for(random, size)),
+        _ => Call::Run(runs::any_run(random, size)),
     }
 }
 

@@ -7,11 +7,25 @@
 
 use seatboard::{Accepted, Refused, Size, SETTLED};
 use second::reader::pixel_blocks;
+use second::walk;
 
 use crate::sequences::{Call, Sequence};
-use crate::tally::{Thing, Things};
+use crate::tally::{Counts, Thing, Things};
 
-type Answered = Result<Accepted, Refused>;
+/// What a call told.
+#[derive(Debug, PartialEq)]
+struct Answered {
+    end: Result<Accepted, Refused>,
+    /// The number accepted, of a run.
+    accepted: Option<usize>,
+}
+
+impl Answered {
+    fn number(&self) -> u8 {
+        self.end
+            .map_or_else(|refused| refused.reason.number(), |_| 0)
+    }
+}
 
 /// What a sequence left and told.
 struct Ran {
@@ -22,18 +36,33 @@ struct Ran {
     counts: Vec<usize>,
 }
 
-/// What contradicts the claim, with the things that the sequence had.
-pub fn check(sequence: &Sequence) -> (Vec<String>, [Thing; 11]) {
+/// What the sequences had, so that a comparison which missed something says so.
+#[derive(Default)]
+pub struct Tally {
+    sequences: Things<11>,
+    runs: Things<6>,
+}
+
+impl Tally {
+    pub fn counts(&self) -> Counts {
+        [self.sequences.counts(), self.runs.counts()].concat()
+    }
+}
+
+/// What contradicts the claim.
+pub fn check(sequence: &Sequence, tally: &mut Tally) -> Vec<String> {
     let ran = [0, 1].map(|board| run(sequence, board));
     let [first, second] = match ran {
         [Ok(first), Ok(second)] => [first, second],
         [Err(refused), _] | [_, Err(refused)] => {
-            return (vec![format!("{refused}")], Default::default());
+            return vec![format!("{refused}")];
         }
     };
+    tally.sequences.add(things(sequence, &first));
+    tally.runs.add(runs(sequence, &first));
     let mut wrong = unequal(&first, &second);
     wrong.extend(wrong_blocks(sequence, &first, &second));
-    (wrong, things(sequence, &first))
+    wrong
 }
 
 /// Fails only where a fresh map or a count does, at a size that is allowed.
@@ -45,10 +74,7 @@ fn run(sequence: &Sequence, board: usize) -> Result<Ran, Refused> {
     let mut counts = vec![seatboard::count_unsettled(size, &map)?];
     let mut answers = Vec::new();
     for call in &sequence.calls {
-        answers.push(match call {
-            Call::Read(chunk) => seatboard::read_chunk(size, chunk, &mut picture, &mut map),
-            Call::Walk(feed) => seatboard::walk_feed(feed, &mut picture, &mut map),
-        });
+        answers.push(answered(size, call, &mut picture, &mut map));
         counts.push(seatboard::count_unsettled(size, &map)?);
     }
     Ok(Ran {
@@ -57,6 +83,18 @@ fn run(sequence: &Sequence, board: usize) -> Result<Ran, Refused> {
         map,
         counts,
     })
+}
+
+fn answered(size: Size, call: &Call, picture: &mut [u8], map: &mut [u16]) -> Answered {
+    let (end, accepted) = match call {
+        Call::Read(chunk) => (seatboard::read_chunk(size, chunk, picture, map), None),
+        Call::Walk(feed) => (seatboard::walk_feed(feed, picture, map), None),
+        Call::Run(run) => {
+            let tally = seatboard::walk_run(size, run, picture, map);
+            (tally.end, Some(tally.accepted))
+        }
+    };
+    Answered { end, accepted }
 }
 
 fn unequal(first: &Ran, second: &Ran) -> Vec<String> {
@@ -104,19 +142,17 @@ fn wrong_blocks(sequence: &Sequence, first: &Ran, second: &Ran) -> Vec<String> {
     entries.filter_map(wrong).collect()
 }
 
-/// What a sequence has, so that a run which missed something says so.
 fn things(sequence: &Sequence, ran: &Ran) -> [Thing; 11] {
     let Size { width, height } = sequence.size;
     let calls = || sequence.calls.iter().zip(&ran.answers);
     let read = |accepted| {
-        move |(call, answer): (&Call, &Answered)| {
-            matches!(call, Call::Read(_)) && answer.is_ok() == accepted
+        move |(call, answered): (&Call, &Answered)| {
+            matches!(call, Call::Read(_)) && answered.end.is_ok() == accepted
         }
     };
     let walked = |numbers: &'static [u8]| {
-        move |(call, answer): (&Call, &Answered)| {
-            let number = answer.map_or_else(|refused| refused.reason.number(), |_| 0);
-            matches!(call, Call::Walk(_)) && numbers.contains(&number)
+        move |(call, answered): (&Call, &Answered)| {
+            matches!(call, Call::Walk(_)) && numbers.contains(&answered.number())
         }
     };
     let moved = |(block, entry): (usize, &u16)| *entry != SETTLED && usize::from(*entry) != block;
@@ -145,4 +181,40 @@ fn things(sequence: &Sequence, ran: &Ran) -> [Thing; 11] {
     ]
 }
 
-pub type Tally = Things<11>;
+/// What its runs did.
+fn runs(sequence: &Sequence, ran: &Ran) -> [Thing; 6] {
+    let calls = sequence.calls.iter().zip(&ran.answers);
+    let done = |(call, answered): (&Call, &Answered)| match (call, answered.accepted) {
+        (Call::Run(run), Some(accepted)) => {
+            let chunks = chunks_in(sequence.size, run);
+            Some((accepted, chunks, answered.number()))
+        }
+        _ => None,
+    };
+    let runs: Vec<_> = calls.filter_map(done).collect();
+    let any = |is: fn(&(usize, usize, u8)) -> bool| runs.iter().any(is);
+    [
+        (
+            "with a run that accepted some",
+            any(|(accepted, ..)| *accepted > 0),
+        ),
+        (
+            "with a run that refused some",
+            any(|(accepted, chunks, _)| accepted < chunks),
+        ),
+        (
+            "with a run that did both",
+            any(|(accepted, chunks, _)| *accepted > 0 && accepted < chunks),
+        ),
+        ("with a run that got 0", any(|(.., number)| *number == 0)),
+        ("with a run that got 12", any(|(.., number)| *number == 12)),
+        ("with a run that got 13", any(|(.., number)| *number == 13)),
+    ]
+}
+
+/// As the second walk finds them, on a board of its own.
+fn chunks_in(size: Size, run: &[u8]) -> usize {
+    let (mut picture, mut map) = (vec![0; size.pixels()], vec![0; size.blocks()]);
+    let walk = walk::walk_run((size.width, size.height), run, &mut picture, &mut map);
+    walk.chunks.len()
+}

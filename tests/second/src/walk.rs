@@ -1,5 +1,6 @@
 //! The independent second walk of the house feed, written from paper 01, "The house feed and the
-//! board program", and from nothing of ours. Each chunk goes to the second reader.
+//! board program", and of a run of chunks (02, "A morning's backlog in one call"), from nothing of
+//! ours. Each chunk goes to the second reader.
 //!
 //! What each chunk answered is kept, for the second listing (listing.rs) and the tally.
 
@@ -9,7 +10,7 @@ use crate::reader::{self, Refusal};
 const GREATEST: usize = 16_777_215;
 const MOST_GROUPS: usize = 4;
 
-/// The three kinds of number that a feed has.
+/// The three kinds of number that a feed has; a run has the last alone.
 #[derive(Clone, Copy, Debug, PartialEq, Eq)]
 pub enum Number {
     Width,
@@ -25,7 +26,7 @@ pub enum Fault {
     TooGreat,
 }
 
-/// What ends a walk before the feed's end; all but 1 and 2 carry their place.
+/// What ends a walk before the feed's or run's end; all but 1 and 2 carry their place.
 #[derive(Clone, Copy, Debug)]
 pub enum Stop {
     /// 1 or 2.
@@ -45,9 +46,11 @@ impl Stop {
     }
 }
 
-/// What one chunk of the feed answered, and the unsettled count then.
+/// What one chunk of the feed or run answered, and the unsettled count then.
 #[derive(Debug)]
 pub struct ChunkRead {
+    /// Where its first byte stands.
+    pub first: usize,
     pub length: usize,
     pub number: u8,
     pub place: usize,
@@ -61,18 +64,36 @@ pub struct Walk {
 }
 
 impl Walk {
+    /// What was read is kept, whatever ends the walk.
+    fn of(walk: impl FnOnce(&mut Vec<ChunkRead>) -> Result<usize, Stop>) -> Self {
+        let mut chunks = Vec::new();
+        let end = walk(&mut chunks);
+        Walk { end, chunks }
+    }
+
     pub fn number_and_place(&self) -> (u8, usize) {
         match self.end {
             Ok(used) => (0, used),
             Err(stop) => stop.number_and_place(),
         }
     }
+
+    /// 02: the number accepted.
+    pub fn accepted(&self) -> usize {
+        self.chunks.iter().filter(|chunk| chunk.number == 0).count()
+    }
 }
 
 pub fn walk(feed: &[u8], picture: &mut [u8], map: &mut [u16]) -> Walk {
-    let mut chunks = Vec::new();
-    let end = walk_chunks(feed, picture, map, &mut chunks);
-    Walk { end, chunks }
+    Walk::of(|chunks| {
+        let (size, first) = size(feed)?;
+        walk_chunks(feed, first, Lent { size, picture, map }, chunks)
+    })
+}
+
+/// 02: the whole run of lengths and chunks at once; 01: its places are from its own first byte.
+pub fn walk_run(size: (usize, usize), run: &[u8], picture: &mut [u8], map: &mut [u16]) -> Walk {
+    Walk::of(|chunks| walk_chunks(run, 0, Lent { size, picture, map }, chunks))
 }
 
 /// The size in pixels and the place after its two numbers. 01: it is checked after both are read.
@@ -84,44 +105,49 @@ pub fn size(feed: &[u8]) -> Result<((usize, usize), usize), Stop> {
     Ok(((width, height), after))
 }
 
+struct Lent<'a> {
+    size: (usize, usize),
+    picture: &'a mut [u8],
+    map: &'a mut [u16],
+}
+
+/// The lengths and chunks that stand from a place on.
 fn walk_chunks(
-    feed: &[u8],
-    picture: &mut [u8],
-    map: &mut [u16],
+    bytes: &[u8],
+    mut at: usize,
+    mut lent: Lent,
     chunks: &mut Vec<ChunkRead>,
 ) -> Result<usize, Stop> {
-    let (size, mut at) = size(feed)?;
-    reader::check_lent(size, picture, map).map_err(Stop::Board)?;
-    while at < feed.len() {
-        let (length, first) = number(feed, at, Number::ChunkLength)?;
-        let rest = &feed[first..];
+    reader::check_lent(lent.size, lent.picture, lent.map).map_err(Stop::Board)?;
+    while at < bytes.len() {
+        let (length, first) = number(bytes, at, Number::ChunkLength)?;
+        let rest = &bytes[first..];
         if rest.len() < length {
             return Err(Stop::CutChunk(first));
         }
-        chunks.push(read_one(size, &rest[..length], picture, map)?);
+        chunks.push(lent.read(first, &rest[..length])?);
         at = first + length;
     }
     Ok(at)
 }
 
-/// 01: read just as that chunk is read by itself; a refusal is kept and does not end the walk.
-fn read_one(
-    size: (usize, usize),
-    chunk: &[u8],
-    picture: &mut [u8],
-    map: &mut [u16],
-) -> Result<ChunkRead, Stop> {
-    let (number, place) = match reader::read_chunk(size, chunk, picture, map) {
-        Ok(_) => (0, chunk.len()),
-        Err(refusal) => refusal.number_and_place(),
-    };
-    let unsettled = reader::count(size.0, size.1, map).map_err(Stop::Board)?;
-    Ok(ChunkRead {
-        length: chunk.len(),
-        number,
-        place,
-        unsettled,
-    })
+impl Lent<'_> {
+    /// 01: read just as that chunk is read by itself; a refusal is kept and does not end the walk.
+    fn read(&mut self, first: usize, chunk: &[u8]) -> Result<ChunkRead, Stop> {
+        let (number, place) = match reader::read_chunk(self.size, chunk, self.picture, self.map) {
+            Ok(_) => (0, chunk.len()),
+            Err(refusal) => refusal.number_and_place(),
+        };
+        let (width, height) = self.size;
+        let unsettled = reader::count(width, height, self.map).map_err(Stop::Board)?;
+        Ok(ChunkRead {
+            first,
+            length: chunk.len(),
+            number,
+            place,
+            unsettled,
+        })
+    }
 }
 
 /// The number that stands at a place, and the place after it. 01's order: bytes end first (13),

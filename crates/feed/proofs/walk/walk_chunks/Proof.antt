@@ -1,69 +1,45 @@
-use Prim.Native.Nat.{_-_}
-use mathlib.Core.Path.{_≡_, refl, ap, _∙_}
-use native.Mathlib.Omega.{arith}
-use borrow.Author.Needs.{needs}
+use mathlib.Core.Path.{sym, ap, _∙_}
 use lib.ListN.{length}
-use Rattle.spec.specs.Boards.{Board, board}
-use Rattle.feed.proofs.Walking.{Walking, walking-none, step-onward, walking-on, walking-over, walking-left}
+use Rattle.spec.specs.Boards.{Left, board}
+use Rattle.spec.specs.Feeds.{chunksFrom, Reply, tally}
+use Rattle.feed.proofs.Opening.{chunks-refused, chunks-read}
+use borrow.Author.Needs.{needs}
 use Rattle.feed.proofs.walk.walk_chunks.Statement.{statement}
 use Rattle.feed.proofs.walk.walk_chunks.Tie as tie
 
-abbrev Inv-loop : tie.InvT-loop
-Inv-loop size feed first picture₀ map₀ at₀ picture map at =
-    (length picture ≡ length picture₀) × (length map ≡ length map₀) × Walking size feed first (board picture₀ map₀) at (board picture map)
+board-fault-requires : tie.Need-board-fault-requires
+board-fault-requires c κs = search needs
 
-abbrev μ-loop : tie.MeasureT-loop
-μ-loop size feed first picture₀ map₀ at₀ picture map at = length feed - at
-
-loop-holds : tie.Need-loop-holds Inv-loop μ-loop
-loop-holds c = (refl, refl, walking-none _ _ _ _)
-
-step-requires : tie.Need-step-requires Inv-loop μ-loop
-step-requires c κs = tt
-
-enum-known-answer : tie.Need-enum-known-answer Inv-loop μ-loop
-enum-known-answer c = search needs
-
-same-length : tie.Need-same-length Inv-loop μ-loop
-same-length c = c .before .before .before .before .before .before .picture .given ∙ c .before .before .before .before .before .before .before .before .before .before .loop .inv .0
-
-same-length-2 : tie.Need-same-length-2 Inv-loop μ-loop
-same-length-2 c = c .before .before .before .before .map .given ∙ c .before .before .before .before .before .before .before .before .before .before .loop .inv .1
-
-returns : tie.Need-returns Inv-loop μ-loop
+returns : tie.Need-returns
 returns c =
-    let w = c .before .before .before .before .before .before .before .before .before .before .loop .inv .2 in
-    let step = c .before .before .before .before .before .before .before .step .ensures in
-    let e = c .before .answer .given .1 in
-    let l = walking-left w (step .0) e in
-    (walking-over w (step .0) e, (step .1 .0 ∙ ap (λ (b : Board). b .picture) l, step .1 .1 ∙ ap (λ (b : Board). b .map) l))
+    let a = c .before .before .before .before .before .args in
+    let cs = chunksFrom (length (a .feed .now)) (a .feed .now) (a .first) in
+    let e = chunks-refused (a .size) cs (board (a .picture .now) (a .map .now)) (c .before .board-fault .ensures) (c .if1 .taken) in
+    (rw e, (rw e, rw e))
 
-enum-known-past : tie.Need-enum-known-past Inv-loop μ-loop
-enum-known-past c = search needs
+read-chunks-requires : tie.Need-read-chunks-requires
+read-chunks-requires c κs = search needs
 
-loop-less : tie.Need-loop-less Inv-loop μ-loop
-loop-less c = let o = step-onward (c .before .before .before .before .before .before .before .before .before .before .loop .inv .2) (c .before .before .before .before .before .before .before .step .ensures .0) (c .before .past .given .1) in omega (arith, o .further, o .within)
+same-length : tie.Need-same-length
+same-length c = search needs
 
-loop-again : tie.Need-loop-again Inv-loop μ-loop
-loop-again c =
-    let step = c .before .before .before .before .before .before .before .step .ensures in (
-      c .before .before .before .before .before .before .picture .given ∙ c .before .before .before .before .before .before .before .before .before .before .loop .inv .0,
-      c .before .before .before .before .map .given ∙ c .before .before .before .before .before .before .before .before .before .before .loop .inv .1,
-      walking-on (c .before .before .before .before .before .before .before .before .before .before .loop .inv .2) (step .0) (c .before .past .given .1) (step .1 .0) (step .1 .1),
-    )
+same-length-2 : tie.Need-same-length-2
+same-length-2 c = search needs
+
+returns-2 : tie.Need-returns-2
+returns-2 c =
+    let a = c .before .before .before .before .before .before .before .before .before .before .before .before .args in
+    let cs = chunksFrom (length (a .feed .now)) (a .feed .now) (a .first) in
+    let e = chunks-read (a .size) cs (board (a .picture .now) (a .map .now)) (c .before .before .before .before .before .before .before .before .board-fault .ensures) (c .before .before .before .before .before .before .before .if1 .left) in
+    rw e (c .before .before .before .before .read-chunks .ensures)
 
 pub walk-chunks-spec : {M : Type 1} → statement M
 walk-chunks-spec =
     tie.close
     (tie.spec
-    Inv-loop
-    μ-loop
-    loop-holds
-    step-requires
-    enum-known-answer
+    board-fault-requires
+    returns
+    read-chunks-requires
     same-length
     same-length-2
-    returns
-    enum-known-past
-    loop-less
-    loop-again)
+    returns-2)

@@ -1,0 +1,20 @@
+use Rattle.spec.specs.Feeds.{walkRun}
+use borrow.Author.Needs.{needs}
+use Rattle.feed.proofs.walk.walk_run.Statement.{statement}
+use Rattle.feed.proofs.walk.walk_run.Tie as tie
+
+walk-chunks-requires : tie.Need-walk-chunks-requires
+walk-chunks-requires c κs = search needs
+
+same-length : tie.Need-same-length
+same-length c = search needs
+
+same-length-2 : tie.Need-same-length-2
+same-length-2 c = search needs
+
+returns : tie.Need-returns
+unfolding walkRun
+returns c = c .before .before .before .before .walk-chunks .ensures
+
+pub walk-run-spec : {M : Type 1} → statement M
+walk-run-spec = tie.close (tie.spec walk-chunks-requires same-length same-length-2 returns)

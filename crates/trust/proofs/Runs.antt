@@ -1,0 +1,155 @@
+-- A run and its chunks handed over singly; a feed's size numbers and the run behind them; what 0 says. Assumes nothing.
+use Prim.Native.Nat.{ℕ, zero, suc, _+_, _≤_}
+use mathlib.Core.Path.{_≡_, refl, sym, ap, subst, _∙_}
+use mathlib.Core.Logic.{_≢_}
+use mathlib.Core.List.{List, [], _∷_, map, map-map}
+use mathlib.Core.Bool.{Bool, true, false}
+use native.Mathlib.Nat.{zero-add}
+use native.Mathlib.Omega.{arith}
+use lib.Dec.{eqb}
+use lib.ListN.{length, drop}
+use borrow.Author.Tests.{ne-eqb}
+use Rattle.spec.specs.declared.Answer.{Answer}
+use Rattle.spec.specs.declared.Size.{Size}
+use Rattle.spec.specs.declared.SizeNumbers.{SizeNumbers}
+use Rattle.spec.specs.declared.SizeNumbers.the-variants.{Broken, Sized}
+use Rattle.spec.specs.declared.Varint.{Varint}
+use Rattle.spec.specs.declared.Varint.the-variants.{Bad, Value}
+use Rattle.spec.specs.Basics.{if, Every, none, also}
+use Rattle.spec.specs.Answers.{ok, badSize, badLength, answer, checked}
+use Rattle.spec.specs.Sizes.{allowed, fault}
+use Rattle.spec.specs.Boards.{Board, Left, left, exact, read, inTurn}
+use Rattle.spec.specs.Feeds.{varintAt, sizeNumbers, withColumns, withLines, withChunks, feedOf, Chunks, chunksFrom, numberAccepted, Reply, reply, readAll, walkChunks, walkFeed, walk, chunksOf, walkRun}
+use Rattle.spec.proofs.Lists.{checked-none, checked-refused}
+use Rattle.spec.proofs.Varints.{Cut, badly, short, cut-refused, Read, read-varint}
+use Rattle.spec.proofs.Feeds.{Ends, whole, cut, ends-chunks}
+use Rattle.spec.proofs.Runs.{laterChunks, chunks-behind, AtEnd, used-up}
+use Rattle.trust.specs.Runs.{singly, Singly, HandedSingly, behind, afterNumbers, SizeThenRun, AllUsed, UsedUp}
+
+-- where size or lengths are not right, each reading is refused with the same answer, and the board stays
+module _ (z : Size) (b : Board) (wrong : fault z (exact z b) ≢ ok) where
+  abbrev refusal : Answer
+  refusal = answer (fault z (exact z b)) 0
+
+  counts-none : _≡_ {A = ℕ} (if (eqb (refusal .number) ok) 1 0) 0
+  unfolding if
+  counts-none = rw (ne-eqb _ _ wrong)
+
+  refused-reading : (s : List ℕ) → read z s b ≡ left refusal b
+  unfolding read
+  refused-reading s = checked-refused _ _ _ wrong
+
+  -- what readings in turn leave, and what they say
+  record Refused (l : Left (List Answer)) : Type 0 where
+    boards : l .board ≡ b
+    accepted : numberAccepted (l .said) ≡ 0
+    refusals : Every (λ a. a ≡ refusal) (l .said)
+
+  refused-readings : (ss : List (List ℕ)) → Refused (inTurn (read z) ss b)
+  unfolding inTurn
+  refused-readings [] = record { boards = refl; accepted = refl; refusals = none }
+  refused-readings (s ∷ ss) =
+      let more = refused-readings ss in
+      rw (refused-reading s) (record { boards = more .boards; accepted = rw (counts-none, zero-add) (more .accepted); refusals = also refl (more .refusals) })
+
+pub handed-singly : HandedSingly
+unfolding walkRun
+handed-singly z s b = by (fault z (exact z b)) refl
+  where
+    by : (n : ℕ) → fault z (exact z b) ≡ n → Singly z s b
+    by zero e =
+        let is : walkRun z s b ≡ readAll z (chunksOf s) b = checked-none _ _ _ e in
+        record {
+          boards = ap (λ l. l .board) is;
+          accepted = ap (λ l. l .said .accepted) is;
+          answers = λ h. ap (λ l. l .said) is;
+          refusals = λ wrong. absurd (wrong e);
+        }
+    by (suc n) e =
+        let wrong : fault z (exact z b) ≢ ok = λ h. omega (arith, h, e) in
+        let is : walkRun z s b ≡ left (reply [] (answer (fault z (exact z b)) 0)) b = checked-refused _ _ _ wrong in
+        let all = refused-readings z b wrong (map (λ c. c .bytes) (chunksOf s .list)) in
+        record {
+          boards = ap (λ l. l .board) is ∙ sym (all .boards);
+          accepted = ap (λ l. l .said .accepted) is ∙ sym (all .accepted);
+          answers = λ h. absurd (wrong h);
+          refusals = λ h. rw is (all .refusals);
+        }
+
+-- size numbers are refused with 12 or 13, or end within the feed
+abbrev Numbered : List ℕ → SizeNumbers → Type 0
+Numbered s (Broken a) = Cut (a .number)
+Numbered s (Sized z p) = p ≤ length s
+
+numbered-lines : (s : List ℕ) (c at : ℕ) (x : Varint) → Read s at x → Numbered s (withLines c at x)
+numbered-lines s c at (Bad e) r = r
+numbered-lines s c at (Value v p) r = r .within
+
+numbered-columns : (s : List ℕ) (x : Varint) → Read s 0 x → Numbered s (withColumns s x)
+numbered-columns s (Bad e) r = r
+numbered-columns s (Value v p) r = numbered-lines s v p (varintAt s p) (read-varint s p)
+
+numbered : (s : List ℕ) {x : SizeNumbers} → sizeNumbers s ≡ x → Numbered s x
+unfolding sizeNumbers
+numbered s e = subst (Numbered s) e (numbered-columns s (varintAt s 0) (read-varint s 0))
+
+-- chunks with places from elsewhere are read just so
+reads-later : (z : Size) (p : ℕ) (cs : Chunks) (b : Board)
+    → readAll z (laterChunks p cs) b ≡ left (reply (readAll z cs b .said .inside) (laterChunks p cs .ending)) (readAll z cs b .board)
+reads-later z p cs b =
+    ap (λ ss. let ran = inTurn (read z) ss b in left (reply (ran .said) (laterChunks p cs .ending)) (ran .board)) (map-map _ _ (cs .list))
+
+-- 0, 12 and 13 are told by the feed's first byte; 1 and 2 are not
+behind-ending : (p n at : ℕ) → Ends n → behind p (answer n at) ≡ answer n (p + at)
+unfolding if
+behind-ending p n at whole = refl
+behind-ending p n at (cut badly) = refl
+behind-ending p n at (cut short) = refl
+
+behind-fault : (p : ℕ) (z : Size) (t : Bool) → fault z t ≢ ok → behind p (answer (fault z t) 0) ≡ answer (fault z t) 0
+unfolding fault if
+behind-fault p z t = by (allowed z) t
+  where
+    by : (a t : Bool) → let n = if a (if t ok badLength) badSize in n ≢ ok → behind p (answer n 0) ≡ answer n 0
+    by true true h = absurd (h refl)
+    by true false h = refl
+    by false t h = refl
+
+pub size-then-run : SizeThenRun
+unfolding walk walkRun feedOf
+size-then-run s z p e b =
+    ap (λ x. walkFeed (withChunks s x) b) e ∙ ap (λ cs. walkChunks z cs b) (chunks-behind s p (numbered s e)) ∙ by (fault z (exact z b)) refl
+  where
+    run : List ℕ
+    run = drop p s
+
+    by : (n : ℕ) → fault z (exact z b) ≡ n → walkChunks z (laterChunks p (chunksOf run)) b ≡ afterNumbers p (walkChunks z (chunksOf run) b)
+    by zero h =
+        let own = chunksOf run .ending in
+        let told = sym (behind-ending p (own .number) (own .place) (ends-chunks (length run) run 0)) in
+        checked-none _ _ _ h
+        ∙ reads-later z p (chunksOf run) b
+        ∙ ap (λ a. left (reply (readAll z (chunksOf run) b .said .inside) a) (readAll z (chunksOf run) b .board)) told
+        ∙ ap (afterNumbers p) (sym (checked-none _ _ _ h))
+    by (suc n) h =
+        let wrong : fault z (exact z b) ≢ ok = λ w. omega (arith, h, w) in
+        checked-refused _ _ _ wrong
+        ∙ ap (λ a. left (reply [] a) b) (sym (behind-fault p z (exact z b) wrong))
+        ∙ ap (afterNumbers p) (sym (checked-refused _ _ _ wrong))
+
+chunks-used : (z : Size) (s : List ℕ) (at : ℕ) (b : Board) → at ≤ length s → AtEnd s (walkChunks z (chunksFrom (length s) s at) b .said .answer)
+chunks-used z s at b within = by (fault z (exact z b)) refl
+  where
+    by : (n : ℕ) → fault z (exact z b) ≡ n → AtEnd s (walkChunks z (chunksFrom (length s) s at) b .said .answer)
+    by zero e = rw (checked-none _ (λ a. left (reply [] a) b) (readAll z (chunksFrom (length s) s at) b) e) (used-up s at within)
+    by (suc n) e =
+        let wrong : fault z (exact z b) ≢ ok = λ h. omega (arith, e, h) in
+        rw (checked-refused _ (λ a. left (reply [] a) b) (readAll z (chunksFrom (length s) s at) b) wrong) (λ h. absurd (wrong h))
+
+pub used-all : UsedUp
+unfolding walk walkRun feedOf
+used-all z s b = record { run = chunks-used z s 0 b (omega arith); feed = by (sizeNumbers s) refl }
+  where
+    by : (x : SizeNumbers) → sizeNumbers s ≡ x → AtEnd s (walkFeed (withChunks s x) b .said .answer)
+    by (Broken a) e = λ h. absurd (cut-refused (numbered s e) h)
+    by (Sized y p) e = chunks-used y s p b (numbered s e)

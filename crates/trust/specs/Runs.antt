@@ -1,0 +1,56 @@
+-- A run of chunks does what its chunks do handed over singly, the walk of a feed is its size numbers followed by a run, and an answer of 0
+-- says that all was used. Assumes nothing.
+use Prim.Native.Nat.{ℕ, _+_}
+use mathlib.Core.Path.{_≡_}
+use mathlib.Core.Logic.{_≢_}
+use mathlib.Core.List.{List, map}
+use lib.Dec.{eqb}
+use lib.ListN.{length, drop}
+use Rattle.spec.specs.declared.Answer.{Answer}
+use Rattle.spec.specs.declared.Size.{Size}
+use Rattle.spec.specs.declared.SizeNumbers.the-variants.{Sized}
+use Rattle.spec.specs.Basics.{if, Every}
+use Rattle.spec.specs.Answers.{ok, badSize, badLength, answer}
+use Rattle.spec.specs.Sizes.{fault}
+use Rattle.spec.specs.Boards.{Board, Left, left, exact, read, inTurn}
+use Rattle.spec.specs.Feeds.{sizeNumbers, numberAccepted, Reply, reply, chunksOf, walk, walkRun}
+
+-- the chunks of a run handed over one by one: what each reading answers, and the board at the end
+abbrev pub singly : Size → List ℕ → Board → Left (List Answer)
+singly z s b = inTurn (read z) (map (λ c. c .bytes) (chunksOf s .list)) b
+
+-- for every run, size and board: refused chunks in the middle, an end in 12 or 13, and a board that gets 1 or 2 included
+pub record Singly (z : Size) (s : List ℕ) (b : Board) : Type 0 where
+  -- the same picture and map
+  pub boards : walkRun z s b .board ≡ singly z s b .board
+  -- the number accepted is how many of the readings answer 0
+  pub accepted : walkRun z s b .said .accepted ≡ numberAccepted (singly z s b .said)
+  -- the same answers, and then the run's own, which its bytes alone decide
+  pub answers : fault z (exact z b) ≡ ok → walkRun z s b .said ≡ reply (singly z s b .said) (chunksOf s .ending)
+  -- where the run gets 1 or 2, so does each of the readings
+  pub refusals : fault z (exact z b) ≢ ok → Every (λ a. a ≡ walkRun z s b .said .answer) (singly z s b .said)
+
+abbrev pub HandedSingly : Type 0
+HandedSingly = (z : Size) (s : List ℕ) (b : Board) → Singly z s b
+
+-- what a run answers, told by a feed in which it stands behind p bytes: "Places count from 0 at the chunk's first byte; for the walk's own
+-- 0, 12 and 13, at the first byte of the feed, or of a run lent without size numbers". 1 and 2 have place 0 in both
+abbrev pub behind : ℕ → Answer → Answer
+behind p a =
+    let further = answer (a .number) (p + a .place) in
+    if (eqb (a .number) badSize) a (if (eqb (a .number) badLength) a further)
+
+-- a walk that has come by its size in p bytes, and goes on as a run
+abbrev pub afterNumbers : ℕ → Left Reply → Left Reply
+afterNumbers p l = left (reply (l .said .inside) (behind p (l .said .answer))) (l .board)
+
+abbrev pub SizeThenRun : Type 0
+SizeThenRun = (s : List ℕ) (z : Size) (p : ℕ) → sizeNumbers s ≡ Sized z p → (b : Board) → walk s b ≡ afterNumbers p (walkRun z (drop p s) b)
+
+-- where a walk answers 0, all of its bytes are used: the place is the length of the run, or of the feed
+pub record AllUsed (z : Size) (s : List ℕ) (b : Board) : Type 0 where
+  pub run : walkRun z s b .said .answer .number ≡ ok → walkRun z s b .said .answer .place ≡ length s
+  pub feed : walk s b .said .answer .number ≡ ok → walk s b .said .answer .place ≡ length s
+
+abbrev pub UsedUp : Type 0
+UsedUp = (z : Size) (s : List ℕ) (b : Board) → AllUsed z s b
