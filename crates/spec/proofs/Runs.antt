@@ -1,8 +1,8 @@
 -- From a place on, a feed is a run by itself: the same chunks and the same end, with places that count from there. And an end with 0 is the
 -- end of all bytes. Assumes nothing.
-use Prim.Native.Nat.{ℕ, zero, suc, _+_, _-_, _*_, _<_, _≤_}
+use Prim.Native.Nat.{ℕ, zero, suc, _+_, _-_, _<_, _≤_}
 use mathlib.Core.Path.{_≡_, refl, sym, ap, _∙_}
-use mathlib.Core.List.{List, [], _∷_, map}
+use mathlib.Core.List.{List, map}
 use mathlib.Core.Bool.{Bool, true, false}
 use native.Mathlib.Nat.{le-refl, add-zero, zero-add, suc-add, add-suc, add-assoc}
 use native.Mathlib.Omega.{arith}

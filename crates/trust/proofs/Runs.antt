@@ -16,15 +16,15 @@ use Rattle.spec.specs.declared.SizeNumbers.the-variants.{Broken, Sized}
 use Rattle.spec.specs.declared.Varint.{Varint}
 use Rattle.spec.specs.declared.Varint.the-variants.{Bad, Value}
 use Rattle.spec.specs.Basics.{if, Every, none, also}
-use Rattle.spec.specs.Answers.{ok, badSize, badLength, answer, checked}
+use Rattle.spec.specs.Answers.{ok, badSize, badLength, answer}
 use Rattle.spec.specs.Sizes.{allowed, fault}
 use Rattle.spec.specs.Boards.{Board, Left, left, exact, read, inTurn}
-use Rattle.spec.specs.Feeds.{varintAt, sizeNumbers, withColumns, withLines, withChunks, feedOf, Chunks, chunksFrom, numberAccepted, Reply, reply, readAll, walkChunks, walkFeed, walk, chunksOf, walkRun}
+use Rattle.spec.specs.Feeds.{varintAt, sizeNumbers, withColumns, withLines, withChunks, feedOf, Chunks, chunksFrom, numberAccepted, reply, readAll, walkChunks, walkFeed, walk, chunksOf, walkRun}
 use Rattle.spec.proofs.Lists.{checked-none, checked-refused}
 use Rattle.spec.proofs.Varints.{Cut, badly, short, cut-refused, Read, read-varint}
 use Rattle.spec.proofs.Feeds.{Ends, whole, cut, ends-chunks}
 use Rattle.spec.proofs.Runs.{laterChunks, chunks-behind, AtEnd, used-up}
-use Rattle.trust.specs.Runs.{singly, Singly, HandedSingly, behind, afterNumbers, SizeThenRun, AllUsed, UsedUp}
+use Rattle.trust.specs.Runs.{singly, Singly, HandedSingly, behind, afterNumbers, SizeThenRun, UsedUp}
 
 -- where size or lengths are not right, each reading is refused with the same answer, and the board stays
 module _ (z : Size) (b : Board) (wrong : fault z (exact z b) ≢ ok) where

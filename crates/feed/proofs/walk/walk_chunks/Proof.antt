@@ -1,7 +1,6 @@
-use mathlib.Core.Path.{sym, ap, _∙_}
 use lib.ListN.{length}
-use Rattle.spec.specs.Boards.{Left, board}
-use Rattle.spec.specs.Feeds.{chunksFrom, Reply, tally}
+use Rattle.spec.specs.Boards.{board}
+use Rattle.spec.specs.Feeds.{chunksFrom}
 use Rattle.feed.proofs.Opening.{chunks-refused, chunks-read}
 use borrow.Author.Needs.{needs}
 use Rattle.feed.proofs.walk.walk_chunks.Statement.{statement}

@@ -1,7 +1,6 @@
-use mathlib.Core.Path.{sym, ap, _∙_}
+use mathlib.Core.Path.{ap}
 use Rattle.spec.specs.declared.Tally.{Tally}
-use Rattle.spec.specs.Boards.{Left, board}
-use Rattle.spec.specs.Feeds.{Reply}
+use Rattle.spec.specs.Boards.{board}
 use Rattle.feed.proofs.Opening.{walk-broken, walk-sized}
 use borrow.Author.Needs.{needs}
 use Rattle.feed.proofs.walk.walk_feed.Statement.{statement}
