@@ -72,7 +72,7 @@ fn read_chunks(size: Size, feed: &[u8], first: usize, picture: &mut [u8], map: &
     }
 }
 
-// The same once size and lengths are right: what a feed is behind its size numbers, and what a run is from its first byte on.
+// The same behind 1 and 2: a feed from the end of its size numbers on, a run from its first byte on.
 fn walk_chunks(size: Size, feed: &[u8], first: usize, picture: &mut [u8], map: &mut [u16]) -> Tally
     ensures { λ r. ⌜ r ≡ tally (walkChunks size (chunksFrom (length (now (feed .entry))) (now (feed .entry)) first) (board (now (picture .entry)) (now (map .entry))) .said) ⌝ }
     ensures { λ _. ⌜ now (picture .exit) ≡ walkChunks size (chunksFrom (length (now (feed .entry))) (now (feed .entry)) first) (board (now (picture .entry)) (now (map .entry))) .board .picture ⌝ }

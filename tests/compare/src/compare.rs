@@ -358,8 +358,8 @@ pub fn walk_run(case: &RunCase) -> RunComparison {
     RunComparison { differences, walk }
 }
 
-/// 02: it must equal handing them over singly. All chunks before the end that the second walk
-/// found, each read by ours.
+/// The same by single readings (02): all chunks before the end that the second walk found, each read
+/// by ours.
 fn singly(RunCase { board, run }: &RunCase, walk: &Walk) -> Outcome<Tally> {
     Outcome::of(board, |picture, map| {
         let read = |chunk: &&ChunkRead| {

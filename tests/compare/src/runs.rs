@@ -15,7 +15,7 @@ pub struct RunCase {
 /// Numbered apart from the other cases.
 const RUNS: u64 = 1 << 59;
 
-/// 02: a board back from cleaning has so many waiting.
+/// So many chunks has 02's backlog.
 pub const BACKLOG: usize = 40;
 
 pub fn case(seed: u64, number: u64) -> RunCase {

@@ -1,6 +1,6 @@
 //! The independent second walk of the house feed, written from paper 01, "The house feed and the
-//! board program", and of a run of chunks (02, "A morning's backlog in one call"), from nothing of
-//! ours. Each chunk goes to the second reader.
+//! board program", and of a run of chunks (02, Ask 2), from nothing of ours. Each chunk goes to the
+//! second reader.
 //!
 //! What each chunk answered is kept, for the second listing (listing.rs) and the tally.
 
@@ -78,7 +78,7 @@ impl Walk {
         }
     }
 
-    /// 02: the number accepted.
+    /// What a run tells besides (02).
     pub fn accepted(&self) -> usize {
         self.chunks.iter().filter(|chunk| chunk.number == 0).count()
     }
@@ -91,7 +91,7 @@ pub fn walk(feed: &[u8], picture: &mut [u8], map: &mut [u16]) -> Walk {
     })
 }
 
-/// 02: the whole run of lengths and chunks at once; 01: its places are from its own first byte.
+/// A run has no size numbers (02); its places count from its own first byte (01).
 pub fn walk_run(size: (usize, usize), run: &[u8], picture: &mut [u8], map: &mut [u16]) -> Walk {
     Walk::of(|chunks| walk_chunks(run, 0, Lent { size, picture, map }, chunks))
 }
