@@ -127,25 +127,44 @@ void try_count(const struct board *board)
     loan_end(&map, NULL);
 }
 
+/* ---- a chunk, feed or run, and the board that it is for ---- */
+
+struct loans {
+    struct loan bytes, picture, map;
+};
+
+/* To memcheck, picture and map are undefined meanwhile: it would report a jump that depends on them. */
+static struct loans lend_all(const struct board *board, const uint8_t *bytes, size_t length)
+{
+    struct loans loans = {lend_const(CHUNK, bytes, length), lend(PICTURE, board->picture, board->pixels),
+                          lend_map(board)};
+    loan_blur(&loans.picture);
+    loan_blur(&loans.map);
+    return loans;
+}
+
+/* Into the board, which the call may have changed or not. */
+static void take_back(struct loans *loans, struct board *board, bool may_change)
+{
+    loan_clear(&loans->picture);
+    loan_clear(&loans->map);
+    PROMISE(loan_kept(&loans->bytes, 0));
+    PROMISE(loan_kept(&loans->picture, may_change ? loans->picture.length : 0));
+    PROMISE(loan_kept(&loans->map, may_change ? loans->map.length : 0));
+    loan_end(&loans->bytes, NULL);
+    loan_end(&loans->picture, board->picture);
+    loan_end(&loans->map, board->map);
+}
+
 /* ---- reading ---- */
 
-/* The call alone. To memcheck, picture and map are undefined meanwhile: it would report a jump that depends on them. */
-static Answer call_read(struct board *board, const uint8_t *bytes, size_t length)
+/* The call alone. */
+static Answer call_read(struct board *board, const uint8_t *chunk, size_t length)
 {
-    struct loan chunk = lend_const(CHUNK, bytes, length);
-    struct loan picture = lend(PICTURE, board->picture, board->pixels), map = lend_map(board);
-    loan_blur(&picture);
-    loan_blur(&map);
-    Answer said = seatboard_read_chunk(board->size, chunk.lent, length, picture.lent, board->pixels, entries(&map),
-                                       board->blocks);
-    loan_clear(&picture);
-    loan_clear(&map);
-    PROMISE(loan_kept(&chunk, 0));
-    PROMISE(loan_kept(&picture, said.number == 0 ? picture.length : 0));
-    PROMISE(loan_kept(&map, said.number == 0 ? map.length : 0));
-    loan_end(&chunk, NULL);
-    loan_end(&picture, board->picture);
-    loan_end(&map, board->map);
+    struct loans l = lend_all(board, chunk, length);
+    Answer said = seatboard_read_chunk(board->size, l.bytes.lent, length, l.picture.lent, board->pixels,
+                                       entries(&l.map), board->blocks);
+    take_back(&l, board, said.number == 0);
     return said;
 }
 
@@ -177,8 +196,8 @@ static bool place_promised(Answer said, const uint8_t *chunk, size_t length)
     }
 }
 
-static Answer call_walk(struct board *board, const uint8_t *bytes, size_t length);
-static Tally call_run(struct board *board, const uint8_t *bytes, size_t length);
+static Answer call_walk(struct board *board, const uint8_t *feed, size_t length);
+static Tally call_run(struct board *board, const uint8_t *run, size_t length);
 
 size_t put_size(const struct board *board, uint8_t *to)
 {
@@ -252,23 +271,12 @@ void try_read(struct board *board, const uint8_t *chunk, size_t length)
 
 /* ---- walking ---- */
 
-static Answer call_walk(struct board *board, const uint8_t *bytes, size_t length)
+static Answer call_walk(struct board *board, const uint8_t *feed, size_t length)
 {
-    struct loan feed = lend_const(CHUNK, bytes, length);
-    struct loan picture = lend(PICTURE, board->picture, board->pixels), map = lend_map(board);
-    loan_blur(&picture);
-    loan_blur(&map);
+    struct loans l = lend_all(board, feed, length);
     Answer said =
-        seatboard_walk_feed(feed.lent, length, picture.lent, board->pixels, entries(&map), board->blocks);
-    loan_clear(&picture);
-    loan_clear(&map);
-    bool nothing_read = said.number == SEATBOARD_BAD_SIZE || said.number == SEATBOARD_BAD_LENGTH;
-    PROMISE(loan_kept(&feed, 0));
-    PROMISE(loan_kept(&picture, nothing_read ? 0 : picture.length));
-    PROMISE(loan_kept(&map, nothing_read ? 0 : map.length));
-    loan_end(&feed, NULL);
-    loan_end(&picture, board->picture);
-    loan_end(&map, board->map);
+        seatboard_walk_feed(l.bytes.lent, length, l.picture.lent, board->pixels, entries(&l.map), board->blocks);
+    take_back(&l, board, said.number != SEATBOARD_BAD_SIZE && said.number != SEATBOARD_BAD_LENGTH);
     return said;
 }
 
@@ -329,22 +337,12 @@ void try_walk(struct board *board, const uint8_t *feed, size_t length)
     PROMISE(same_answer(call_walk(board, feed, length), by_hand) && same_board(board, &twin));
 }
 
-static Tally call_run(struct board *board, const uint8_t *bytes, size_t length)
+static Tally call_run(struct board *board, const uint8_t *run, size_t length)
 {
-    struct loan run = lend_const(CHUNK, bytes, length);
-    struct loan picture = lend(PICTURE, board->picture, board->pixels), map = lend_map(board);
-    loan_blur(&picture);
-    loan_blur(&map);
-    Tally said = seatboard_walk_run(board->size, run.lent, length, picture.lent, board->pixels, entries(&map),
+    struct loans l = lend_all(board, run, length);
+    Tally said = seatboard_walk_run(board->size, l.bytes.lent, length, l.picture.lent, board->pixels, entries(&l.map),
                                     board->blocks);
-    loan_clear(&picture);
-    loan_clear(&map);
-    PROMISE(loan_kept(&run, 0));
-    PROMISE(loan_kept(&picture, said.accepted > 0 ? picture.length : 0));
-    PROMISE(loan_kept(&map, said.accepted > 0 ? map.length : 0));
-    loan_end(&run, NULL);
-    loan_end(&picture, board->picture);
-    loan_end(&map, board->map);
+    take_back(&l, board, said.accepted > 0);
     return said;
 }
 

@@ -19,17 +19,32 @@ unfolding if
 by-test P true f g = f refl
 by-test P false f g = g refl
 
--- a function of a choice is a choice
-pub if-apply {ℓ κ} : {A : Type ℓ} {B : Type κ} (f : A → B) (b : Bool) (x y : A) → f (if b x y) ≡ if b (f x) (f y)
+-- a choice of what a function makes is what it makes of a choice
+pub if-along {ℓ κ} : {A : Type ℓ} {B : Type κ} (f : A → B) (b : Bool) {x y : A} {u v : B} → u ≡ f x → v ≡ f y → if b u v ≡ f (if b x y)
 unfolding if
-if-apply f true x y = refl
-if-apply f false x y = refl
+if-along f true p q = p
+if-along f false p q = q
 
--- a property of what is done after 1 and 2 have been looked for
-pub by-checked : {A : Type 0} (P : A → Type 0) (n : ℕ) {refuse : Answer → A} {go : A} → ((a : Answer) → P (refuse a)) → P go → P (checked n refuse go)
+pub if-apply {ℓ κ} : {A : Type ℓ} {B : Type κ} (f : A → B) (b : Bool) (x y : A) → f (if b x y) ≡ if b (f x) (f y)
+if-apply f b x y = sym (if-along f b refl refl)
+
+-- a property of what is done after 1 and 2 have been looked for: in each branch the number is known
+pub by-number : {A : Type 0} (P : A → Type 0) (n : ℕ) (refuse : Answer → A) {go : A} → (n ≢ 0 → P (refuse (answer n 0))) → (n ≡ 0 → P go)
+    → P (checked n refuse go)
 unfolding checked
-by-checked P zero f g = g
-by-checked P (suc n) f g = f (answer (suc n) 0)
+by-number P zero refuse f g = g refl
+by-number P (suc n) refuse f g = f (λ e. omega (arith, e))
+
+-- where it does not matter
+pub by-checked : {A : Type 0} (P : A → Type 0) (n : ℕ) {refuse : Answer → A} {go : A} → ((a : Answer) → P (refuse a)) → P go → P (checked n refuse go)
+by-checked P n {refuse} f g = by-number P n refuse (λ h. f (answer n 0)) (λ e. g)
+
+-- the same check on both sides
+pub checked-along : {A B : Type 0} (f : A → B) (n : ℕ) (refuse : Answer → A) (refuse′ : Answer → B) {go : A} {go′ : B}
+    → (n ≢ 0 → refuse′ (answer n 0) ≡ f (refuse (answer n 0))) → (n ≡ 0 → go′ ≡ f go) → checked n refuse′ go′ ≡ f (checked n refuse go)
+unfolding checked
+checked-along f zero refuse refuse′ p q = q refl
+checked-along f (suc n) refuse refuse′ p q = p (λ e. omega (arith, e))
 
 -- where the number is known
 pub checked-none : {A : Type 0} (n : ℕ) (refuse : Answer → A) (go : A) → n ≡ 0 → checked n refuse go ≡ go

@@ -3,7 +3,6 @@
 use Prim.Native.Nat.{ℕ, zero, suc, _+_, _-_, _<_, _≤_}
 use mathlib.Core.Path.{_≡_, refl, sym, ap, _∙_}
 use mathlib.Core.List.{List, map}
-use mathlib.Core.Bool.{Bool, true, false}
 use native.Mathlib.Nat.{le-refl, add-zero, zero-add, suc-add, add-suc, add-assoc}
 use native.Mathlib.Omega.{arith}
 use lib.Dec.{leb, ltb, leb·suc-suc}
@@ -15,10 +14,10 @@ use Rattle.spec.specs.declared.Varint.{Varint}
 use Rattle.spec.specs.declared.Varint.the-variants.{Bad, Value}
 use Rattle.spec.specs.declared.Next.{Next}
 use Rattle.spec.specs.declared.Next.the-variants as Next
-use Rattle.spec.specs.Basics.{if, fuelled, part}
+use Rattle.spec.specs.Basics.{fuelled, part}
 use Rattle.spec.specs.Answers.{ok, answer}
 use Rattle.spec.specs.Feeds.{groups, varintAt, chunkAt, nextAt, Placed, Chunks, andOnward, chunksFrom, chunksOf}
-use Rattle.spec.proofs.Lists.{by-test}
+use Rattle.spec.proofs.Lists.{by-test, if-along}
 use Rattle.spec.proofs.Varints.{short, cut-refused, Read, read-varint}
 use Rattle.spec.proofs.Feeds.{Stands, stands, chunks-enough, unroll-chunks}
 
@@ -39,12 +38,6 @@ laterPlaced p c = record { numberAt = p + c .numberAt; first = p + c .first; pas
 
 abbrev pub laterChunks : ℕ → Chunks → Chunks
 laterChunks p cs = record { list = map (laterPlaced p) (cs .list); ending = later p (cs .ending) }
-
--- a choice on both sides, by one test
-chosen : {A B : Type 0} (f : A → B) (t : Bool) {x y : A} {u v : B} → u ≡ f x → v ≡ f y → if t u v ≡ f (if t x y)
-unfolding if
-chosen f true e g = e
-chosen f false e g = g
 
 leb-add : (p a b : ℕ) → leb (p + a) (p + b) ≡ leb a b
 leb-add zero a b = rw (zero-add a, zero-add b)
@@ -80,8 +73,8 @@ module _ (s : List ℕ) (p : ℕ) (within : p ≤ length s) where
   groups-later zero scale sum at = refl
   groups-later (suc more) scale sum at =
       rw (byte-later at, ends-later at, add-assoc p at 1)
-      (chosen (laterNumber p) _ refl (chosen (laterNumber p) _ (groups-later more _ _ (at + 1))
-      (chosen (laterNumber p) _ refl (chosen (laterNumber p) _ refl refl))))
+      (if-along (laterNumber p) _ refl (if-along (laterNumber p) _ (groups-later more _ _ (at + 1))
+      (if-along (laterNumber p) _ refl (if-along (laterNumber p) _ refl refl))))
 
   number-later : (at : ℕ) → varintAt s (p + at) ≡ laterNumber p (varintAt run at)
   unfolding varintAt
@@ -89,11 +82,11 @@ module _ (s : List ℕ) (p : ℕ) (within : p ≤ length s) where
 
   chunk-later : (at : ℕ) (x : Varint) → chunkAt s (p + at) (laterNumber p x) ≡ laterNext p (chunkAt run at x)
   chunk-later at (Bad e) = refl
-  chunk-later at (Value n after) = rw (add-assoc p after n, short-later (after + n)) (chosen (laterNext p) _ refl refl)
+  chunk-later at (Value n after) = rw (add-assoc p after n, short-later (after + n)) (if-along (laterNext p) _ refl refl)
 
   next-later : (at : ℕ) → nextAt s (p + at) ≡ laterNext p (nextAt run at)
   unfolding nextAt
-  next-later at = rw (more-later at, number-later at) (chosen (laterNext p) _ (chunk-later at (varintAt run at)) refl)
+  next-later at = rw (more-later at, number-later at) (if-along (laterNext p) _ (chunk-later at (varintAt run at)) refl)
 
   onward-later : (f g : ℕ → Chunks) (at : ℕ) (x : Next) → ((q : ℕ) → f (p + q) ≡ laterChunks p (g q))
       → andOnward f s (p + at) (laterNext p x) ≡ laterChunks p (andOnward g run at x)
@@ -108,7 +101,7 @@ module _ (s : List ℕ) (p : ℕ) (within : p ≤ length s) where
   chunks-later zero at = refl
   chunks-later (suc fuel) at =
       rw (more-later at, next-later at)
-      (chosen (laterChunks p) _ (onward-later _ _ at (nextAt run at) (chunks-later fuel)) refl)
+      (if-along (laterChunks p) _ (onward-later _ _ at (nextAt run at) (chunks-later fuel)) refl)
 
   -- the run has fuel enough for itself
   fuel-more : (k : ℕ) → chunksFrom (k + length run) run 0 ≡ chunksOf run

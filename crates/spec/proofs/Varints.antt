@@ -1,4 +1,5 @@
--- A house number that is read: refused with 12 or 13, or a value within the limit, and a place further on in the feed. Assumes nothing.
+-- A house number that is read: refused with 12 or 13, or a value within the limit, and a place further on in the feed; and the two size numbers.
+-- Assumes nothing.
 use Prim.Native.Nat.{ℕ, zero, suc, _+_, _*_, _<_, _≤_}
 use mathlib.Core.Path.{_≡_, subst}
 use mathlib.Core.Logic.{_≢_}
@@ -7,10 +8,12 @@ use native.Mathlib.Omega.{arith}
 use lib.Dec.{leb}
 use lib.ListN.{length, getD}
 use borrow.Author.Tests.{ltb-false, leb-false}
+use Rattle.spec.specs.declared.SizeNumbers.{SizeNumbers}
+use Rattle.spec.specs.declared.SizeNumbers.the-variants.{Broken, Sized}
 use Rattle.spec.specs.declared.Varint.{Varint}
 use Rattle.spec.specs.declared.Varint.the-variants.{Bad, Value}
 use Rattle.spec.specs.Answers.{ok, badVarint, feedCut}
-use Rattle.spec.specs.Feeds.{maxNumber, groups, varintAt}
+use Rattle.spec.specs.Feeds.{maxNumber, groups, varintAt, withLines, withColumns, sizeNumbers}
 use Rattle.spec.proofs.Lists.{by-test}
 
 pub data Cut : ℕ → Type 0 where
@@ -49,3 +52,20 @@ read-varint s at = read-groups 4 1 0 s at at (omega arith)
 -- of a value that code was given
 pub varint-got : (s : List ℕ) (at : ℕ) {v after : ℕ} → varintAt s at ≡ Value v after → Got s at v after
 varint-got s at e = subst (Read s at) e (read-varint s at)
+
+-- size numbers fail with 12 or 13, or end within the feed
+abbrev pub Numbered : List ℕ → SizeNumbers → Type 0
+Numbered s (Broken a) = Cut (a .number)
+Numbered s (Sized z p) = p ≤ length s
+
+numbered-lines : (s : List ℕ) (c at : ℕ) (x : Varint) → Read s at x → Numbered s (withLines c at x)
+numbered-lines s c at (Bad e) r = r
+numbered-lines s c at (Value v p) r = r .within
+
+numbered-columns : (s : List ℕ) (x : Varint) → Read s 0 x → Numbered s (withColumns s x)
+numbered-columns s (Bad e) r = r
+numbered-columns s (Value v p) r = numbered-lines s v p (varintAt s p) (read-varint s p)
+
+pub numbered : (s : List ℕ) {x : SizeNumbers} → sizeNumbers s ≡ x → Numbered s x
+unfolding sizeNumbers
+numbered s e = subst (Numbered s) e (numbered-columns s (varintAt s 0) (read-varint s 0))

@@ -1,6 +1,6 @@
 -- A run and its chunks handed over singly; a feed's size numbers and the run behind them; what 0 says. Assumes nothing.
-use Prim.Native.Nat.{ℕ, zero, suc, _+_, _≤_}
-use mathlib.Core.Path.{_≡_, refl, sym, ap, subst, _∙_}
+use Prim.Native.Nat.{ℕ, _+_, _≤_}
+use mathlib.Core.Path.{_≡_, refl, sym, ap, _∙_}
 use mathlib.Core.Logic.{_≢_}
 use mathlib.Core.List.{List, [], _∷_, map, map-map}
 use mathlib.Core.Bool.{Bool, true, false}
@@ -13,15 +13,13 @@ use Rattle.spec.specs.declared.Answer.{Answer}
 use Rattle.spec.specs.declared.Size.{Size}
 use Rattle.spec.specs.declared.SizeNumbers.{SizeNumbers}
 use Rattle.spec.specs.declared.SizeNumbers.the-variants.{Broken, Sized}
-use Rattle.spec.specs.declared.Varint.{Varint}
-use Rattle.spec.specs.declared.Varint.the-variants.{Bad, Value}
 use Rattle.spec.specs.Basics.{if, Every, none, also}
 use Rattle.spec.specs.Answers.{ok, badSize, badLength, answer}
 use Rattle.spec.specs.Sizes.{allowed, fault}
 use Rattle.spec.specs.Boards.{Board, Left, left, exact, read, inTurn}
-use Rattle.spec.specs.Feeds.{varintAt, sizeNumbers, withColumns, withLines, withChunks, feedOf, Chunks, chunksFrom, numberAccepted, reply, readAll, walkChunks, walkFeed, walk, chunksOf, walkRun}
-use Rattle.spec.proofs.Lists.{checked-none, checked-refused}
-use Rattle.spec.proofs.Varints.{Cut, badly, short, cut-refused, Read, read-varint}
+use Rattle.spec.specs.Feeds.{sizeNumbers, withChunks, feedOf, Chunks, chunksFrom, numberAccepted, Reply, reply, readAll, walkChunks, walkFeed, walk, chunksOf, walkRun}
+use Rattle.spec.proofs.Lists.{by-number, checked-along, checked-refused}
+use Rattle.spec.proofs.Varints.{badly, short, cut-refused, numbered}
 use Rattle.spec.proofs.Feeds.{Ends, whole, cut, ends-chunks}
 use Rattle.spec.proofs.Runs.{laterChunks, chunks-behind, AtEnd, used-up}
 use Rattle.trust.specs.Runs.{singly, Singly, HandedSingly, behind, afterNumbers, SizeThenRun, UsedUp}
@@ -54,44 +52,24 @@ module _ (z : Size) (b : Board) (wrong : fault z (exact z b) ≢ ok) where
 
 pub handed-singly : HandedSingly
 unfolding walkRun
-handed-singly z s b = by (fault z (exact z b)) refl
-  where
-    by : (n : ℕ) → fault z (exact z b) ≡ n → Singly z s b
-    by zero e =
-        let is : walkRun z s b ≡ readAll z (chunksOf s) b = checked-none _ _ _ e in
-        record {
-          boards = ap (λ l. l .board) is;
-          accepted = ap (λ l. l .said .accepted) is;
-          answers = λ h. ap (λ l. l .said) is;
-          refusals = λ wrong. absurd (wrong e);
-        }
-    by (suc n) e =
-        let wrong : fault z (exact z b) ≢ ok = λ h. omega (arith, h, e) in
-        let is : walkRun z s b ≡ left (reply [] (answer (fault z (exact z b)) 0)) b = checked-refused _ _ _ wrong in
-        let all = refused-readings z b wrong (map (λ c. c .bytes) (chunksOf s .list)) in
-        record {
-          boards = ap (λ l. l .board) is ∙ sym (all .boards);
-          accepted = ap (λ l. l .said .accepted) is ∙ sym (all .accepted);
-          answers = λ h. absurd (wrong h);
-          refusals = λ h. rw is (all .refusals);
-        }
-
--- size numbers are refused with 12 or 13, or end within the feed
-abbrev Numbered : List ℕ → SizeNumbers → Type 0
-Numbered s (Broken a) = Cut (a .number)
-Numbered s (Sized z p) = p ≤ length s
-
-numbered-lines : (s : List ℕ) (c at : ℕ) (x : Varint) → Read s at x → Numbered s (withLines c at x)
-numbered-lines s c at (Bad e) r = r
-numbered-lines s c at (Value v p) r = r .within
-
-numbered-columns : (s : List ℕ) (x : Varint) → Read s 0 x → Numbered s (withColumns s x)
-numbered-columns s (Bad e) r = r
-numbered-columns s (Value v p) r = numbered-lines s v p (varintAt s p) (read-varint s p)
-
-numbered : (s : List ℕ) {x : SizeNumbers} → sizeNumbers s ≡ x → Numbered s x
-unfolding sizeNumbers
-numbered s e = subst (Numbered s) e (numbered-columns s (varintAt s 0) (read-varint s 0))
+handed-singly z s b =
+    by-number (λ (l : Left Reply). walkRun z s b ≡ l → Singly z s b) (fault z (exact z b)) _
+    (λ wrong is.
+    let all = refused-readings z b wrong (map (λ c. c .bytes) (chunksOf s .list)) in
+    record {
+      boards = ap (λ l. l .board) is ∙ sym (all .boards);
+      accepted = ap (λ l. l .said .accepted) is ∙ sym (all .accepted);
+      answers = λ h. absurd (wrong h);
+      refusals = λ h. rw is (all .refusals);
+    })
+    (λ fine is.
+    record {
+      boards = ap (λ l. l .board) is;
+      accepted = ap (λ l. l .said .accepted) is;
+      answers = λ h. ap (λ l. l .said) is;
+      refusals = λ wrong. absurd (wrong fine);
+    })
+    refl
 
 -- chunks with places from elsewhere are read just so
 reads-later : (z : Size) (p : ℕ) (cs : Chunks) (b : Board)
@@ -118,33 +96,20 @@ behind-fault p z t = by (allowed z) t
 pub size-then-run : SizeThenRun
 unfolding walk walkRun feedOf
 size-then-run s z p e b =
-    ap (λ x. walkFeed (withChunks s x) b) e ∙ ap (λ cs. walkChunks z cs b) (chunks-behind s p (numbered s e)) ∙ by (fault z (exact z b)) refl
-  where
-    run : List ℕ
-    run = drop p s
-
-    by : (n : ℕ) → fault z (exact z b) ≡ n → walkChunks z (laterChunks p (chunksOf run)) b ≡ afterNumbers p (walkChunks z (chunksOf run) b)
-    by zero h =
-        let own = chunksOf run .ending in
-        let told = sym (behind-ending p (own .number) (own .place) (ends-chunks (length run) run 0)) in
-        checked-none _ _ _ h
-        ∙ reads-later z p (chunksOf run) b
-        ∙ ap (λ a. left (reply (readAll z (chunksOf run) b .said .inside) a) (readAll z (chunksOf run) b .board)) told
-        ∙ ap (afterNumbers p) (sym (checked-none _ _ _ h))
-    by (suc n) h =
-        let wrong : fault z (exact z b) ≢ ok = λ w. omega (arith, h, w) in
-        checked-refused _ _ _ wrong
-        ∙ ap (λ a. left (reply [] a) b) (sym (behind-fault p z (exact z b) wrong))
-        ∙ ap (afterNumbers p) (sym (checked-refused _ _ _ wrong))
+    let run = drop p s in
+    let own = chunksOf run .ending in
+    let ran = readAll z (chunksOf run) b in
+    ap (λ x. walkFeed (withChunks s x) b) e
+    ∙ ap (λ cs. walkChunks z cs b) (chunks-behind s p (numbered s e))
+    ∙ checked-along (afterNumbers p) (fault z (exact z b)) _ _
+    (λ wrong. ap (λ a. left (reply [] a) b) (sym (behind-fault p z (exact z b) wrong)))
+    (λ fine.
+    reads-later z p (chunksOf run) b
+    ∙ ap (λ a. left (reply (ran .said .inside) a) (ran .board)) (sym (behind-ending p (own .number) (own .place) (ends-chunks (length run) run 0))))
 
 chunks-used : (z : Size) (s : List ℕ) (at : ℕ) (b : Board) → at ≤ length s → AtEnd s (walkChunks z (chunksFrom (length s) s at) b .said .answer)
-chunks-used z s at b within = by (fault z (exact z b)) refl
-  where
-    by : (n : ℕ) → fault z (exact z b) ≡ n → AtEnd s (walkChunks z (chunksFrom (length s) s at) b .said .answer)
-    by zero e = rw (checked-none _ (λ a. left (reply [] a) b) (readAll z (chunksFrom (length s) s at) b) e) (used-up s at within)
-    by (suc n) e =
-        let wrong : fault z (exact z b) ≢ ok = λ h. omega (arith, e, h) in
-        rw (checked-refused _ (λ a. left (reply [] a) b) (readAll z (chunksFrom (length s) s at) b) wrong) (λ h. absurd (wrong h))
+chunks-used z s at b within =
+    by-number (λ (l : Left Reply). AtEnd s (l .said .answer)) (fault z (exact z b)) _ (λ wrong h. absurd (wrong h)) (λ fine. used-up s at within)
 
 pub used-all : UsedUp
 unfolding walk walkRun feedOf
