@@ -12,7 +12,7 @@ static const struct seatboard_size size = {WIDTH, HEIGHT};
 
 static void show(const char *call, struct seatboard_answer answer)
 {
-    printf("%s: %u at %zu\n", call, answer.number, answer.place);
+    printf("%s: %u at %zu, block %zu\n", call, answer.number, answer.place, answer.block);
 }
 
 static void print_picture(const uint8_t *picture)
@@ -66,8 +66,8 @@ int main(void)
     print_picture(picture);
     printf("unsettled: %zu\n", seatboard_count(size, map, BLOCKS).unsettled);
 
-    /* a chunk that asks for a block before the first: refused, and nothing has changed */
-    const uint8_t bad[] = {0xE1, 0, 0, 5, 0x23};
+    /* a chunk that keeps block 0, and for block 1 asks for the one two before: refused, and nothing has changed */
+    const uint8_t bad[] = {0xE1, 0, 0, 6, 0x00, 0x40};
     show("read a bad chunk", seatboard_read_chunk(size, bad, sizeof bad, picture, PIXELS, map, BLOCKS));
 
     uint8_t wanted[PIXELS], output[SEATBOARD_LONGEST_CHUNK(WIDTH, HEIGHT)];

@@ -50,7 +50,9 @@ extern "C" {
 
 /* The numbers that a call answers with, and the place that comes with each. Places count bytes from 0 at the chunk's
  * first byte, and for a walk's own 0, 12 and 13 at the feed's or the run's. They are looked for in this order: 1, 2, 3,
- * 4, then opcode by opcode, 11 last. Of a symbol: 1, 2, 15, 16, 17, then row by row 18 and 19, 20 last. */
+ * 4, then opcode by opcode, 11 last. Of a symbol: 1, 2, 15, 16, 17, then row by row 18 and 19, 20 last.
+ * The block that comes with each: the number of blocks for 0 and 11; for 5 to 10 the first block still waiting at that
+ * place, which is how many had their turn before it; 0 for the others, and for fresh map, count and symbol. */
 enum {
     SEATBOARD_OK = 0,              /* accepted; the place is the length of the chunk, feed or run read, or of the chunk
                                       written, and 0 for fresh map, count and symbol */
@@ -87,6 +89,7 @@ struct seatboard_size {
 struct seatboard_answer {
     uint8_t number; /* one of the above */
     size_t place;
+    size_t block;
 };
 
 struct seatboard_count {
@@ -131,7 +134,7 @@ struct seatboard_tally seatboard_walk_run(struct seatboard_size size, const uint
 
 /* Paints a frame of an SPR# file, numbered from 0, on a shown picture. The frame's upper left pixel falls on column
  * left, row top, which may lie off the picture; pixels off it are dropped, and background leaves the picture's pixel.
- * The frame is checked whole before the first pixel is painted. Answers 0, 1, 2 or 15 to 20, at place 0.
+ * The frame is checked whole before the first pixel is painted. Answers 0, 1, 2 or 15 to 20, at place 0 and block 0.
  * The map does not learn of it, and chunks copy from the picture that they are read over. So copy the held picture
  * first and paint on the copy: then the held picture and its map stay true to each other. */
 struct seatboard_answer seatboard_paint_symbol(struct seatboard_size size, uint8_t *picture, size_t picture_length,

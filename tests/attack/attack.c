@@ -95,15 +95,6 @@ static void odd_board(struct input *in)
 
 /* ---- chunks, feeds and runs ---- */
 
-static void state_length(uint8_t *chunk, size_t length)
-{
-    if (length < 4)
-        return;
-    chunk[1] = (uint8_t)(length >> 16);
-    chunk[2] = (uint8_t)(length >> 8);
-    chunk[3] = (uint8_t)length;
-}
-
 /* Makes a chunk that is accepted: what is refused is cut off, and the blocks that remain are skipped. */
 static size_t close_chunk(uint8_t *chunk, size_t length)
 {

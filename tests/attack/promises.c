@@ -80,12 +80,12 @@ static bool same_block(const uint8_t *a, size_t block_of_a, const uint8_t *b, si
 
 static bool same_answer(Answer a, Answer b)
 {
-    return a.number == b.number && a.place == b.place;
+    return a.number == b.number && a.place == b.place && a.block == b.block;
 }
 
-static Answer answered(unsigned number, size_t place)
+static Answer answered(unsigned number, size_t place, size_t block)
 {
-    return (Answer){(uint8_t)number, place};
+    return (Answer){(uint8_t)number, place, block};
 }
 
 static struct loan lend_map(const struct board *board)
@@ -105,7 +105,7 @@ void try_fresh_map(struct board *board)
     struct loan map = lend_map(board);
     loan_blur(&map);
     Answer said = seatboard_fresh_map(board->size, entries(&map), board->blocks);
-    PROMISE(said.number == map_refusal(board) && said.place == 0);
+    PROMISE(same_answer(said, answered(map_refusal(board), 0, 0)));
     PROMISE(said.number != 0 || loan_defined(&map, map.length));
     loan_clear(&map);
     PROMISE(loan_kept(&map, said.number == 0 ? map.length : 0));
@@ -121,7 +121,7 @@ void try_count(const struct board *board)
     size_t unsettled = 0;
     for (size_t k = 0; k < board->blocks; k++)
         unsettled += board->map[k] != SEATBOARD_SETTLED;
-    PROMISE(said.answer.number == map_refusal(board) && said.answer.place == 0);
+    PROMISE(same_answer(said.answer, answered(map_refusal(board), 0, 0)));
     PROMISE(said.unsettled == (said.answer.number == 0 ? unsettled : 0));
     PROMISE(loan_kept(&map, 0));
     loan_end(&map, NULL);
@@ -196,6 +196,37 @@ static bool place_promised(Answer said, const uint8_t *chunk, size_t length)
     }
 }
 
+void state_length(uint8_t *chunk, size_t length)
+{
+    if (length < 4)
+        return;
+    chunk[1] = (uint8_t)(length >> 16);
+    chunk[2] = (uint8_t)(length >> 8);
+    chunk[3] = (uint8_t)length;
+}
+
+/* The number of blocks, 0, or for 5 to 10 the first block still waiting: a chunk cut off there is accepted when just
+ * that block and those after it are skipped. */
+static void promise_block(const struct board *board, Answer said, const uint8_t *chunk)
+{
+    bool all = said.number == SEATBOARD_OK || said.number == SEATBOARD_BYTES_FOLLOW;
+    if (all || said.number < SEATBOARD_BLOCKS_REMAIN) {
+        PROMISE(said.block == (all ? board->blocks : 0));
+        return;
+    }
+    PROMISE(said.block < board->blocks);
+    size_t at = said.place;
+    memcpy(feed_made, chunk, at);
+    for (size_t rest = board->blocks - said.block, skip; rest > 0; rest -= skip) {
+        skip = rest < 256 ? rest : 256;
+        feed_made[at++] = 0x10;
+        feed_made[at++] = (uint8_t)(skip - 1);
+    }
+    state_length(feed_made, at);
+    copy_board(&twin, &start);
+    PROMISE(call_read(&twin, feed_made, at).number == 0);
+}
+
 static Answer call_walk(struct board *board, const uint8_t *feed, size_t length);
 static Tally call_run(struct board *board, const uint8_t *run, size_t length);
 
@@ -224,10 +255,10 @@ static void promise_alone(const struct board *board, Answer said, const uint8_t 
     size_t sizes = put_size(board, feed_made), run = put_run_of_one(chunk, length, feed_made + sizes);
     copy_board(&twin, &start);
     Answer walked = call_walk(&twin, feed_made, sizes + run);
-    PROMISE(same_answer(walked, answered(0, sizes + run)) && same_board(&twin, board));
+    PROMISE(same_answer(walked, answered(0, sizes + run, board->blocks)) && same_board(&twin, board));
     copy_board(&twin, &start);
     Tally ran = call_run(&twin, feed_made + sizes, run);
-    PROMISE(same_answer(ran.answer, answered(0, run)) && same_board(&twin, board));
+    PROMISE(same_answer(ran.answer, answered(0, run, board->blocks)) && same_board(&twin, board));
     PROMISE(ran.accepted == (said.number == 0));
 }
 
@@ -240,7 +271,7 @@ static void promise_origins(const struct board *board, const uint8_t *chunk, siz
         twin.picture[k] = (uint8_t)~start.picture[k];
     for (size_t k = 0; k < twin.blocks; k++)
         twin.map[k] = (uint16_t)k;
-    PROMISE(same_answer(call_read(&twin, chunk, length), answered(0, length)));
+    PROMISE(same_answer(call_read(&twin, chunk, length), answered(0, length, board->blocks)));
     for (size_t k = 0; k < twin.blocks; k++) {
         uint16_t from = twin.map[k];
         bool settled = from == SEATBOARD_SETTLED;
@@ -258,6 +289,7 @@ void try_read(struct board *board, const uint8_t *chunk, size_t length)
     Answer said = call_read(board, chunk, length);
     PROMISE(refusal ? said.number == refusal : said.number == 0 || said.number > SEATBOARD_LENGTH_DIFFERS);
     PROMISE(place_promised(said, chunk, length));
+    promise_block(board, said, chunk);
 
     lend_early = !lend_early; /* the same bytes at other addresses */
     copy_board(&twin, &start);
@@ -302,19 +334,19 @@ static Tally chunks_by_hand(struct board *board, const uint8_t *bytes, size_t le
 {
     size_t accepted = 0, chunk = 0;
     if (board_refusal(board))
-        return (Tally){answered(board_refusal(board), 0), 0};
+        return (Tally){answered(board_refusal(board), 0, 0), 0};
     for (; at < length; at += chunk) {
         size_t number_from = at;
         unsigned fault = number_at(bytes, length, &at, &chunk);
         if (fault)
-            return (Tally){answered(fault, number_from), accepted};
+            return (Tally){answered(fault, number_from, 0), accepted};
         if (chunk > length - at)
-            return (Tally){answered(SEATBOARD_FEED_CUT, at), accepted};
+            return (Tally){answered(SEATBOARD_FEED_CUT, at, 0), accepted};
         Answer said = seatboard_read_chunk(board->size, bytes + at, chunk, board->picture, board->pixels, board->map,
                                            board->blocks);
         accepted += said.number == 0;
     }
-    return (Tally){answered(0, length), accepted};
+    return (Tally){answered(0, length, board->blocks), accepted};
 }
 
 /* A feed: its size, and the rest. */
@@ -324,7 +356,7 @@ static Answer walk_by_hand(struct board *board, const uint8_t *feed, size_t leng
     for (int side = 0; side < 2; side++, number_from = at) {
         unsigned fault = number_at(feed, length, &at, &sides[side]);
         if (fault)
-            return answered(fault, number_from);
+            return answered(fault, number_from, 0);
     }
     board->size = (struct seatboard_size){4 * sides[0], 4 * sides[1]};
     return chunks_by_hand(board, feed, length, at).answer;
@@ -360,7 +392,7 @@ static void promise_feed(const struct board *board, Answer said, const uint8_t *
     size_t place = said.number == SEATBOARD_BAD_LENGTH ? 0 : sizes + said.place;
     copy_board(&twin, &start);
     Answer walked = call_walk(&twin, feed_made, sizes + length);
-    PROMISE(same_answer(walked, answered(said.number, place)) && same_board(&twin, board));
+    PROMISE(same_answer(walked, answered(said.number, place, said.block)) && same_board(&twin, board));
 }
 
 void try_run(struct board *board, const uint8_t *run, size_t length)
@@ -392,6 +424,7 @@ static Answer call_write(const struct board *board, const struct wish *wish, uin
         seatboard_write_chunk(board->size, old.lent, board->pixels, new_lent, wish->pixels, out.lent, room);
     size_t written = said.number == 0 ? said.place : 0;
     PROMISE(said.number == 0 ? 4 < said.place && said.place <= room : said.place == 0);
+    PROMISE(said.block == (said.number == 0 ? SEATBOARD_BLOCKS(board->size.width, board->size.height) : 0));
     PROMISE(loan_defined(&out, written));
     loan_clear(&out);
     PROMISE(loan_kept(&old, 0) && loan_kept(&new, 0) && loan_kept(&out, written));
@@ -430,7 +463,7 @@ static void read_back(struct board *board, const struct wish *wish, const uint8_
     copy_board(&start, board);
     memcpy(wanted, wish->picture, wish->pixels); /* an overlapping one changes with the board */
     PROMISE(chunk[0] == 0xE1);
-    PROMISE(same_answer(call_read(board, chunk, length), answered(0, length)));
+    PROMISE(same_answer(call_read(board, chunk, length), answered(0, length, board->blocks)));
     PROMISE(memcmp(board->picture, wanted, wish->pixels) == 0);
     for (size_t k = 0; k < board->blocks; k++) {
         bool kept = same_block(start.picture, k, wanted, k, board->size.width);
@@ -468,7 +501,7 @@ static Answer call_paint(struct board *board, const struct symbol *symbol)
     Answer said = seatboard_paint_symbol(board->size, picture.lent, board->pixels, file.lent, symbol->length,
                                          symbol->frame, symbol->left, symbol->top);
     loan_clear(&picture);
-    PROMISE(said.place == 0);
+    PROMISE(said.place == 0 && said.block == 0);
     PROMISE(loan_kept(&file, 0));
     PROMISE(loan_kept(&picture, said.number == 0 ? picture.length : 0));
     loan_end(&file, NULL);
@@ -597,12 +630,12 @@ void try_longest_chunks(void)
         memcpy(feed, number, sizeof number);
         memcpy(chunk, head, sizeof head);
         Answer said = seatboard_read_chunk(size, chunk, length, pixels, 16, map, 1);
-        PROMISE(same_answer(said, length < bound ? answered(SEATBOARD_BYTES_FOLLOW, 5)
-                                                 : answered(SEATBOARD_LENGTH_DIFFERS, 0)));
+        PROMISE(same_answer(said, length < bound ? answered(SEATBOARD_BYTES_FOLLOW, 5, 1)
+                                                 : answered(SEATBOARD_LENGTH_DIFFERS, 0, 0)));
         said = seatboard_walk_feed(feed, bound + 5, pixels, 16, map, 1);
-        PROMISE(same_answer(said, answered(0, bound + 5)));
+        PROMISE(same_answer(said, answered(0, bound + 5, 1)));
         Tally ran = seatboard_walk_run(size, feed + 2, bound + 3, pixels, 16, map, 1);
-        PROMISE(same_tally(ran, (Tally){answered(0, bound + 3), 0}));
+        PROMISE(same_tally(ran, (Tally){answered(0, bound + 3, 1), 0}));
     }
     munmap(pages, room);
 }
@@ -620,6 +653,6 @@ void try_longest_run(void)
     for (size_t k = 0; k < chunks; k++)
         memcpy(run + k * sizeof kept, kept, sizeof kept);
     Tally said = seatboard_walk_run(size, run, length, pixels, 16, map, 1);
-    PROMISE(same_tally(said, (Tally){answered(0, length), chunks}));
+    PROMISE(same_tally(said, (Tally){answered(0, length, 1), chunks}));
     munmap(run, length);
 }

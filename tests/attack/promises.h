@@ -35,6 +35,9 @@ size_t corner_of(size_t block, size_t width);
 unsigned map_refusal(const struct board *board);
 unsigned board_refusal(const struct board *board);
 
+/* Puts a chunk's length into its head, where it has one. */
+void state_length(uint8_t *chunk, size_t length);
+
 /* A number of a feed or run at *at. Answers 0, and then *at is behind the number, or 12 or 13. */
 unsigned number_at(const uint8_t *bytes, size_t length, size_t *at, size_t *value);
 

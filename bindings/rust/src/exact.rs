@@ -1,5 +1,5 @@
-//! The library's functions with their answers as C has them: a number and a place, whatever the
-//! number. For programs that show or compare answers. The only file with `unsafe`.
+//! The library's functions with their answers as C has them: a number, a place and a block, whatever
+//! the number. For programs that show or compare answers. The only file with `unsafe`.
 
 use crate::Size;
 
@@ -9,6 +9,8 @@ pub struct Answer {
     /// 0 for accepted; the others are those of [`crate::Reason`].
     pub number: u8,
     pub place: usize,
+    /// That of [`crate::Accepted`] or [`crate::Refused`]; 0 where no chunk is read or written.
+    pub block: usize,
 }
 
 #[repr(C)]

@@ -70,6 +70,8 @@ impl Size {
 pub struct Accepted {
     /// The length of the chunk, feed or run that was read, or of the chunk that was written.
     pub length: usize,
+    /// The number of blocks. In a chunk that was read or written each of them has had its turn.
+    pub block: usize,
 }
 
 /// What a run tells. It is no [`Result`]: what was accepted before the end counts, whatever the end
@@ -92,6 +94,9 @@ pub struct Refused {
     /// The byte of the chunk, or for 12 and 13 of the feed or run, at which it was found; 0 for the
     /// reasons that have no place.
     pub place: usize,
+    /// The first block still waiting there, for 5 to 10; the number of blocks for 11; 0 for the
+    /// others.
+    pub block: usize,
 }
 
 /// The numbered refusals.
@@ -201,8 +206,16 @@ impl Display for Reason {
 
 impl Display for Refused {
     fn fmt(&self, out: &mut Formatter) -> fmt::Result {
-        let Refused { reason, place } = self;
-        write!(out, "{} at {place}: {reason}", reason.number())
+        let Refused {
+            reason,
+            place,
+            block,
+        } = self;
+        write!(
+            out,
+            "{} at {place}, block {block}: {reason}",
+            reason.number()
+        )
     }
 }
 
@@ -275,13 +288,22 @@ pub fn paint_symbol(
     accepted(exact::paint_symbol(size, picture, file, frame, left, top)).map(|_| ())
 }
 
-fn accepted(exact::Answer { number, place }: exact::Answer) -> Result<Accepted, Refused> {
+fn accepted(answer: exact::Answer) -> Result<Accepted, Refused> {
+    let exact::Answer {
+        number,
+        place,
+        block,
+    } = answer;
     match number {
-        0 => Ok(Accepted { length: place }),
+        0 => Ok(Accepted {
+            length: place,
+            block,
+        }),
         // the library gives no other number: its contracts say so
         refused => Err(Refused {
             reason: Reason::ALL[usize::from(refused) - 1],
             place,
+            block,
         }),
     }
 }

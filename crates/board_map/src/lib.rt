@@ -39,7 +39,11 @@ pub fn fresh_map(size: Size, map: &mut [u16]) -> Answer
     if number == Answer::OK {
         number_entries(map);
     }
-    Answer { number, place: 0 }
+    Answer {
+        number,
+        place: 0,
+        block: 0,
+    }
 }
 
 // 1 for an entry that is not settled.
@@ -69,7 +73,11 @@ pub fn count_unsettled(size: Size, map: &[u16]) -> Count
     ensures { λ r. ⌜ r ≡ countMap size (now (map .entry)) ⌝ }
 {
     let number = sizes::map_fault(size, map.len());
-    let answer = Answer { number, place: 0 };
+    let answer = Answer {
+        number,
+        place: 0,
+        block: 0,
+    };
     if number != Answer::OK {
         return Count {
             answer,

@@ -33,6 +33,7 @@ pub fn decide(feed: &[u8]) -> Decision
             Decision::EndLine(Answer {
                 number: Answer::BAD_SIZE,
                 place: 0,
+                block: 0,
             })
         }
     }

@@ -57,9 +57,17 @@ pub fn size_numbers(feed: &[u8]) -> SizeNumbers
     ensures { λ r. ⌜ r ≡ sizeNumbers (now (feed .entry)) ⌝ }
 {
     match varint_at(feed, 0) {
-        Varint::Bad(number) => SizeNumbers::Broken(Answer { number, place: 0 }),
+        Varint::Bad(number) => SizeNumbers::Broken(Answer {
+            number,
+            place: 0,
+            block: 0,
+        }),
         Varint::Value(columns, at) => match varint_at(feed, at) {
-            Varint::Bad(number) => SizeNumbers::Broken(Answer { number, place: at }),
+            Varint::Bad(number) => SizeNumbers::Broken(Answer {
+                number,
+                place: at,
+                block: 0,
+            }),
             Varint::Value(lines, first) => SizeNumbers::Sized(
                 Size {
                     width: 4 * columns,

@@ -10,9 +10,9 @@ use spec::Varint;
 ghost use mathlib.Core.Path.{_≡_};
 ghost use lib.ListN.{length};
 ghost use Rattle.spec.specs.Boards.{board};
-ghost use Rattle.spec.specs.Feeds.{nextAt, chunksFrom, readAll, walkStep, walkChunks, walk, walkRun, tally};
+ghost use Rattle.spec.specs.Feeds.{nextAt, chunksFrom, ended, readAll, walkStep, walkChunks, walk, walkRun, tally};
 
-// What stands at a place behind the size numbers: a chunk, or the walk's end.
+// What stands at a place behind the size numbers: a chunk, or the walk's end, which does not know the blocks yet.
 fn next_at(feed: &[u8], at: usize) -> Next
     ensures { λ r. ⌜ r ≡ nextAt (now (feed .entry)) at ⌝ }
 {
@@ -20,19 +20,43 @@ fn next_at(feed: &[u8], at: usize) -> Next
         return Next::End(Answer {
             number: Answer::OK,
             place: at,
+            block: 0,
         });
     }
     match numbers::varint_at(feed, at) {
-        Varint::Bad(number) => Next::End(Answer { number, place: at }),
+        Varint::Bad(number) => Next::End(Answer {
+            number,
+            place: at,
+            block: 0,
+        }),
         Varint::Value(n, first) => {
             if feed.len() - first < n {
                 return Next::End(Answer {
                     number: Answer::FEED_CUT,
                     place: first,
+                    block: 0,
                 });
             }
             Next::Chunk(first, first + n)
         }
+    }
+}
+
+// The walk's own answer at a size: with 0 it has the number of blocks.
+fn ended(size: Size, own: Answer) -> Answer
+    ensures { λ r. ⌜ r ≡ ended size own ⌝ }
+{
+    if own.number == Answer::OK {
+        return Answer {
+            number: own.number,
+            place: own.place,
+            block: sizes::blocks_in(size),
+        };
+    }
+    Answer {
+        number: own.number,
+        place: own.place,
+        block: 0,
     }
 }
 
@@ -43,7 +67,7 @@ pub fn step(size: Size, feed: &[u8], at: usize, picture: &mut [u8], map: &mut [u
     ensures { λ _. ⌜ now (map .exit) ≡ walkStep size (now (feed .entry)) at (board (now (picture .entry)) (now (map .entry))) .board .map ⌝ }
 {
     match next_at(feed, at) {
-        Next::End(answer) => Step::End(answer),
+        Next::End(answer) => Step::End(ended(size, answer)),
         Next::Chunk(first, past) => {
             let answer = smc::read_chunk(size, &feed[first..past], picture, map);
             Step::Chunk(answer, past)
@@ -84,6 +108,7 @@ fn walk_chunks(size: Size, feed: &[u8], first: usize, picture: &mut [u8], map: &
             answer: Answer {
                 number: fault,
                 place: 0,
+                block: 0,
             },
             accepted: 0,
         };

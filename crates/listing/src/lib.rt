@@ -39,14 +39,15 @@ pub fn board_line(size: Size) -> Line
     Line { text, start }
 }
 
-// "1 0 6 2": the chunk's number, its answer, and how many entries of the map are unsettled
+// "1 0 6 2 2": the chunk's number, its answer's number and place, how many entries of the map are unsettled, and the answer's block
 pub fn chunk_line(chunk: usize, answer: Answer, unsettled: usize) -> Line
     ensures { λ r. ⌜ drop (r .start) (r .text) ≡ chunkLine chunk answer unsettled ⌝ }
     ensures { λ r. ⌜ r .start ≤ length (r .text) ⌝ }
 {
     let mut text = [0; Line::ROOM];
     let newline = put_byte(&mut text, Line::ROOM, b'\n');
-    let count = put_spaced(&mut text, newline, unsettled);
+    let block = put_spaced(&mut text, newline, answer.block);
+    let count = put_spaced(&mut text, block, unsettled);
     let place = put_spaced(&mut text, count, answer.place);
     let number = put_spaced(&mut text, place, answer.number as usize);
     let start = put_decimal(&mut text, number, chunk);

@@ -12,7 +12,7 @@ use borrow.Author.Tests.{eq-eqb}
 use Rattle.spec.specs.declared.Answer.{Answer}
 use Rattle.spec.specs.declared.Size.{Size}
 use Rattle.spec.specs.Basics.{if}
-use Rattle.spec.specs.Answers.{ok, answer, checked}
+use Rattle.spec.specs.Answers.{ok, answerAt, answer, checked}
 use Rattle.spec.specs.Sizes.{allowed, pixels, blocks, fault}
 use Rattle.spec.specs.Boards.{Board, board, Exact, exact, read}
 use Rattle.spec.specs.Writing.{chunkFor, onto, Wrote, wrote, emit, write}
@@ -38,8 +38,8 @@ checked-both P (suc n) p q = p (answer (suc n) 0) (λ z. omega arith)
 data Goes (z : Size) (new : List ℕ) (b : Board) : Wrote → Trip → Type 0 where
   refused : {a : Answer} {out : List ℕ} → a .number ≢ ok → Goes z new b (wrote a out) (trip a b out)
   written : (out : List ℕ) → length new ≡ pixels z
-      → Goes z new b (wrote (answer ok (length (chunkFor z (b .picture) new))) (onto (chunkFor z (b .picture) new) out))
-      (trip (answer ok (length (chunkFor z (b .picture) new))) (board new (marked z (b .picture) new (b .map))) (onto (chunkFor z (b .picture) new) out))
+      → Goes z new b (wrote (answerAt ok (length (chunkFor z (b .picture) new)) (blocks z)) (onto (chunkFor z (b .picture) new) out))
+      (trip (answerAt ok (length (chunkFor z (b .picture) new)) (blocks z)) (board new (marked z (b .picture) new (b .map))) (onto (chunkFor z (b .picture) new) out))
 
 module _ (z : Size) (new : List ℕ) (b : Board) (e : Exact z b) (out : List ℕ) where
   -- where the board is exact, both look for 1 and 2 alike

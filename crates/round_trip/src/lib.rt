@@ -21,7 +21,11 @@ pub fn write_and_read(
 {
     let number = sizes::board_fault(size, picture.len(), map.len());
     if number != Answer::OK {
-        return Answer { number, place: 0 };
+        return Answer {
+            number,
+            place: 0,
+            block: 0,
+        };
     }
     let wrote = smc_writer::write_chunk(size, picture, new, out);
     if wrote.number != Answer::OK {

@@ -8,7 +8,7 @@ use lib.Dec.{eqb}
 use lib.ListN.{length, getD}
 use borrow.Author.Tests.{lt-ltb, le-ltb, eq-eqb, ne-eqb}
 use Rattle.spec.specs.Basics.{if, part}
-use Rattle.spec.specs.Answers.{ok, chunkShort, lengthDiffers, blocksRemain, bytesFollow, answer}
+use Rattle.spec.specs.Answers.{ok, chunkShort, lengthDiffers, blocksRemain, bytesFollow, answerAt, answer}
 use Rattle.spec.specs.Flags.{number}
 use Rattle.spec.specs.Chunks as Chunks
 use Rattle.spec.specs.Chunks.{kindOf, once, each, bodyAt, opcode, act, step, State, start, extend, stored, refused, accepted, finish, resume, loop, decode, verdict}
@@ -85,16 +85,16 @@ module _ (n : ℕ) (s : List ℕ) where
 
   module _ (at k : ℕ) (f : Filled) (g : Behind n s at k f) where
     -- the opcode at the loop's place is the definition's
-    next : k < n → at < length s → decode n s ≡ resume (λ st. loop (length s) n s st) at (act s (g .st) (opcode n s at k (fillsOf f)))
+    next : k < n → at < length s → decode n s ≡ resume (λ st. loop (length s) n s st) (g .st) (act s (g .st) (opcode n s at k (fillsOf f)))
     unfolding step
     next a b =
         g .same
         ∙ unroll n s (length s) (g .st) (omega arith) (omega (arith, g .ks)) (omega (arith, g .ats))
         ∙ rw (g .ats, g .ks, counted-fills f (g .st .tables) (g .counted))
 
-    pub goes-bad : k < n → at < length s → (e : ℕ) → opcode n s at k (fillsOf f) ≡ Chunks.Head.bad e → answer e at ≡ verdict s (decode n s)
+    pub goes-bad : k < n → at < length s → (e : ℕ) → opcode n s at k (fillsOf f) ≡ Chunks.Head.bad e → answerAt e at k ≡ verdict s (decode n s)
     goes-bad a b e h =
-        let d : decode n s ≡ refused (answer e at) = next a b ∙ rw h in
+        let d : decode n s ≡ refused (answerAt e at k) = next a b ∙ rw (h, g .ats, g .ks) in
         rw d
 
     pub goes-on : k < n → at < length s → (u m p : ℕ) → Told n s at k (opcode n s at k (fillsOf f)) u m p → Behind n s p (k + m) (grown f u)
@@ -115,28 +115,29 @@ module _ (n : ℕ) (s : List ℕ) where
           octets = omega (arith, bumped-most (f .octets) u 12, g .octets);
         }
 
-    pub ends-remain : k < n → length s ≤ at → answer blocksRemain (length s) ≡ verdict s (decode n s)
+    pub ends-remain : k < n → length s ≤ at → answerAt blocksRemain (length s) k ≡ verdict s (decode n s)
     unfolding finish if
     ends-remain a b =
-        let d : decode n s ≡ refused (answer blocksRemain (length s)) =
+        let d : decode n s ≡ refused (answerAt blocksRemain (length s) k) =
         g .same
         ∙ unroll-end n s (length s) (g .st) (rw (le-ltb (g .st .at) (length s) (omega (arith, g .ats)), and-false))
-        ∙ rw (lt-ltb (length (g .st .made)) n (omega (arith, g .ks))) in
+        ∙ rw (lt-ltb (length (g .st .made)) n (omega (arith, g .ks)), g .ks) in
         rw d
 
-    pub ends-follow : n ≤ k → at < length s → answer bytesFollow at ≡ verdict s (decode n s)
+    pub ends-follow : n ≤ k → at < length s → answerAt bytesFollow at n ≡ verdict s (decode n s)
     unfolding finish if
     ends-follow a b =
-        let d : decode n s ≡ refused (answer bytesFollow at) =
+        let d : decode n s ≡ refused (answerAt bytesFollow at n) =
         g .same
         ∙ unroll-end n s (length s) (g .st) (rw (le-ltb (length (g .st .made)) n (omega (arith, g .ks))))
         ∙ rw (le-ltb (length (g .st .made)) n (omega (arith, g .ks)), lt-ltb (g .st .at) (length s) (omega (arith, g .ats)), g .ats) in
         rw d
 
-    pub ends-ok : n ≤ k → length s ≤ at → answer ok (length s) ≡ verdict s (decode n s)
+    pub ends-ok : n ≤ k → length s ≤ at → answerAt ok (length s) n ≡ verdict s (decode n s)
     ends-ok a b =
         let d : decode n s ≡ accepted (g .st .made) = g .same ∙ loop-accepts n s (length s) (g .st) (omega (arith, g .ks)) (omega (arith, g .ats)) in
-        rw d
+        let all : n ≡ length (g .st .made) = omega (arith, g .most, g .ks) in
+        rw (d, all)
 
 -- the refusals before any opcode
 pub ends-short : (n : ℕ) (s : List ℕ) → length s < 4 → answer chunkShort 0 ≡ verdict s (decode n s)

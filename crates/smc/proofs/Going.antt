@@ -10,7 +10,7 @@ use lib.ListN.{length, getD}
 use borrow.Author.Tests.{le-ltb, lt-ltb}
 use Rattle.spec.specs.declared.Answer.{Answer}
 use Rattle.spec.specs.Basics.{if, part}
-use Rattle.spec.specs.Answers.{chunkShort, lengthDiffers, blocksRemain, bytesFollow, answer}
+use Rattle.spec.specs.Answers.{chunkShort, lengthDiffers, blocksRemain, bytesFollow, answerAt, answer}
 use Rattle.spec.specs.Flags.{number}
 use Rattle.spec.specs.Maps.{remap}
 use Rattle.spec.specs.Pictures.{paint}
@@ -53,12 +53,12 @@ module _ (n : ℕ) (s : List ℕ) (g : Accepts (decode n s)) (st : State) (same 
       by : Dec (st .at < length s) → st .at < length s
       by (yes h) = h
       by (no h) =
-          absurd (never (decode n s) g (answer blocksRemain (length s))
+          absurd (never (decode n s) g (answerAt blocksRemain (length s) (length (st .made)))
           (same ∙ unroll-end n s (length s) st (rw (le-ltb (st .at) (length s) (omega arith), and-false)) ∙ rw (lt-ltb (length (st .made)) n l)))
 
   moves : {x : Head} → st .at < length s → Known n s (length (st .made)) (fills (st .tables)) (upperAt s (st .at)) (countAt s (st .at)) (bodyAt s (st .at)) x
-      → decode n s ≡ resume (λ st′. loop (length s) n s st′) (st .at) (act s st x) → Opens n s (st .at) (length (st .made)) st
-  moves h (bad {e}) q = absurd (never (decode n s) g (answer e (st .at)) q)
+      → decode n s ≡ resume (λ st′. loop (length s) n s st′) st (act s st x) → Opens n s (st .at) (length (st .made)) st
+  moves h (bad {e}) q = absurd (never (decode n s) g (answerAt e (st .at) (length (st .made))) q)
   moves h (good f) q =
       record {
         room = record { start = h; known = f .known; before = f .before; within = f .within; inside = f .room };
@@ -75,9 +75,9 @@ module _ (n : ℕ) (s : List ℕ) (g : Accepts (decode n s)) (st : State) (same 
   ended : n ≤ length (st .made) → decode n s ≡ accepted (st .made)
   unfolding finish if
   ended l =
-      let e : decode n s ≡ if (ltb (st .at) (length s)) (refused (answer bytesFollow (st .at))) (accepted (st .made)) =
+      let e : decode n s ≡ if (ltb (st .at) (length s)) (refused (answerAt bytesFollow (st .at) n)) (accepted (st .made)) =
       same ∙ unroll-end n s (length s) st (rw (le-ltb (length (st .made)) n l)) ∙ rw (le-ltb (length (st .made)) n l) in
-      e ∙ passed (ltb (st .at) (length s)) (answer bytesFollow (st .at)) (accepted (st .made)) (subst Accepts e g)
+      e ∙ passed (ltb (st .at) (length s)) (answerAt bytesFollow (st .at) n) (accepted (st .made)) (subst Accepts e g)
 
 -- the loop stands inside a state from which `decode` goes on
 pub record Going (c r : ℕ) (s pic₀ map₀ : List ℕ) (at k : ℕ) (l₁ : List ℕ) (n₁ : ℕ) (l₂ : List ℕ) (n₂ : ℕ) (l₃ : List ℕ) (n₃ : ℕ) (pic m : List ℕ) : Type 0 where

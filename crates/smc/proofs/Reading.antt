@@ -44,8 +44,8 @@ module _ (z : Size) (s pic m : List ℕ) where
     pub read-says : read z s (board pic m) .said ≡ verdict s (decode (blocks z) s)
     read-says = ap (λ (l : Left Answer). l .said) reads
 
-    left-refused : (x : Outcome) → Numbered x → verdict s x .number ≢ ok → effect z x (board pic m) ≡ board pic m
-    left-refused x (refused n) k = refl
+    left-refused : (x : Outcome) → Numbered (blocks z) x → verdict s x .number ≢ ok → effect z x (board pic m) ≡ board pic m
+    left-refused x (refused named n) k = refl
     left-refused x accepted k = absurd (k refl)
 
     pub read-keeps : (a : Answer) → a ≡ verdict s (decode (blocks z) s) → a .number ≢ ok → read z s (board pic m) .board ≡ board pic m
@@ -53,8 +53,8 @@ module _ (z : Size) (s pic m : List ℕ) where
         ap (λ (l : Left Answer). l .board) reads
         ∙ left-refused (decode (blocks z) s) (numbered (blocks z) s) (λ w. k (ap (λ (a : Answer). a .number) ea ∙ w))
 
-    accepts : (x : Outcome) → Numbered x → verdict s x .number ≡ ok → Accepts x
-    accepts x (refused n) k = absurd (n k)
+    accepts : (x : Outcome) → Numbered (blocks z) x → verdict s x .number ≡ ok → Accepts x
+    accepts x (refused named n) k = absurd (n k)
     accepts x (accepted {os}) k = record { os = os; is = refl }
 
     pub is-accepted : (a : Answer) → a ≡ verdict s (decode (blocks z) s) → a .number ≡ ok → Accepts (decode (blocks z) s)

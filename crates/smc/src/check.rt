@@ -6,6 +6,7 @@ use spec::Answer;
 ghost use mathlib.Core.Path.{_≡_};
 ghost use Prim.Native.Nat.{_+_, _^_, _≤_, _<_};
 ghost use lib.ListN.{length, getD};
+ghost use Rattle.spec.specs.Answers.{answerAt};
 ghost use Rattle.spec.specs.Basics.{part};
 ghost use Rattle.spec.specs.Flags.{number};
 ghost use Rattle.spec.specs.Chunks.{kindOf, times, reach, once, missing, opcode, decode, verdict};
@@ -202,6 +203,17 @@ fn opcode(
     whole(times, reach, blocks, s, at, k, f, span)
 }
 
+// Where the check stops: with a number, at a place and a block.
+fn stop(number: u8, place: usize, block: usize) -> Answer
+    ensures { λ r. ⌜ r ≡ answerAt number place block ⌝ }
+{
+    Answer {
+        number,
+        place,
+        block,
+    }
+}
+
 // The opcodes of a chunk whose stated length is right.
 fn check_opcodes(blocks: usize, s: &[u8]) -> Answer
     requires { ⌜ 4 ≤ length (now s) ⌝ }
@@ -222,14 +234,11 @@ fn check_opcodes(blocks: usize, s: &[u8]) -> Answer
     };
     while k < blocks {
         if len <= at {
-            return Answer {
-                number: Answer::BLOCKS_REMAIN,
-                place: len,
-            };
+            return stop(Answer::BLOCKS_REMAIN, len, k);
         }
         let head = opcode(&spans, &times, &reach, blocks, s, at, k, f);
         match head {
-            Head::Bad(number) => return Answer { number, place: at },
+            Head::Bad(number) => return stop(number, at, k),
             Head::Runs(upper, m, next) => {
                 let g = grown(f, upper);
                 f = g;
@@ -239,15 +248,9 @@ fn check_opcodes(blocks: usize, s: &[u8]) -> Answer
         }
     }
     if at < len {
-        return Answer {
-            number: Answer::BYTES_FOLLOW,
-            place: at,
-        };
+        return stop(Answer::BYTES_FOLLOW, at, blocks);
     }
-    Answer {
-        number: Answer::OK,
-        place: len,
-    }
+    stop(Answer::OK, len, blocks)
 }
 
 // The answer to a chunk for a picture of so many blocks.
@@ -256,17 +259,11 @@ pub fn check(blocks: usize, s: &[u8]) -> Answer
 {
     let len = s.len();
     if len < 4 {
-        return Answer {
-            number: Answer::CHUNK_SHORT,
-            place: 0,
-        };
+        return stop(Answer::CHUNK_SHORT, 0, 0);
     }
     let stated = (heads::wide(s[1]) * 256 + heads::wide(s[2])) * 256 + heads::wide(s[3]);
     if stated != len {
-        return Answer {
-            number: Answer::LENGTH_DIFFERS,
-            place: 0,
-        };
+        return stop(Answer::LENGTH_DIFFERS, 0, 0);
     }
     check_opcodes(blocks, s)
 }

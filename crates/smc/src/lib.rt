@@ -22,7 +22,11 @@ pub fn read_chunk(size: Size, chunk: &[u8], picture: &mut [u8], map: &mut [u16])
 {
     let number = sizes::board_fault(size, picture.len(), map.len());
     if number != Answer::OK {
-        return Answer { number, place: 0 };
+        return Answer {
+            number,
+            place: 0,
+            block: 0,
+        };
     }
     let columns = size.width / 4;
     let lines = size.height / 4;

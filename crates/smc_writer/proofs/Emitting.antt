@@ -12,7 +12,7 @@ use borrow.Rule.Slice.PartMut.{putMid}
 use borrow.Author.Tests.{lt-ltb, le-ltb}
 use Rattle.spec.specs.declared.Size.{Size}
 use Rattle.spec.specs.Basics.{if}
-use Rattle.spec.specs.Answers.{ok, outputShort, answer}
+use Rattle.spec.specs.Answers.{ok, outputShort, answerAt, answer}
 use Rattle.spec.specs.Sizes.{allowed, pixels, columns, lines, fault}
 use Rattle.spec.specs.Pictures.{Origin}
 use Rattle.spec.specs.Flags.{digits}
@@ -71,14 +71,14 @@ pub origins-most : (c n : ℕ) (kept new : List ℕ) → length (encode (origins
 origins-most c n kept new = omega (arith, length-encode (origins c n kept new), opcodes-few c n kept new)
 
 -- 14, or the chunk
-module _ (bytes o : List ℕ) where
-  pub emit-short : length o < length bytes → emit bytes o ≡ wrote (answer outputShort 0) o
+module _ (n : ℕ) (bytes o : List ℕ) where
+  pub emit-short : length o < length bytes → emit n bytes o ≡ wrote (answer outputShort 0) o
   unfolding emit if
   emit-short h = rw (lt-ltb (length o) (length bytes) h)
 
-  pub emit-fits : length bytes ≤ length o → (n : ℕ) → n ≡ length bytes → (l : List ℕ) → l ≡ onto bytes o → wrote (answer ok n) l ≡ emit bytes o
+  pub emit-fits : length bytes ≤ length o → (used : ℕ) → used ≡ length bytes → (l : List ℕ) → l ≡ onto bytes o → wrote (answerAt ok used n) l ≡ emit n bytes o
   unfolding emit if
-  emit-fits h n en l el = rw (le-ltb (length o) (length bytes) h, en, el)
+  emit-fits h used eu l el = rw (le-ltb (length o) (length bytes) h, eu, el)
 
 -- 1 and 2; or what is emitted
 module _ (z : Size) (old new o : List ℕ) (e : ℕ) (q : e ≡ fault z (eqb (length old) (pixels z) && eqb (length new) (pixels z))) where
@@ -97,8 +97,8 @@ module _ (z : Size) (old new o : List ℕ) (e : ℕ) (q : e ≡ fault z (eqb (le
     new-canvas = canvas z (sound .0) new (sound .1 .1)
 
     pub write-emits : (kept : List ℕ) → Flagged (columns z) (columns z * lines z) old new kept
-        → write z old new o ≡ emit (encode (origins (columns z) (columns z * lines z) kept new)) o
+        → write z old new o ≡ emit (columns z * lines z) (encode (origins (columns z) (columns z * lines z) kept new)) o
     unfolding write differences
     write-emits kept f =
         checked-none _ _ _ (sym q ∙ h)
-        ∙ ap (λ (os : List Origin). emit (encode os) o) (sym (origins-differ (columns z) (columns z * lines z) kept new old f))
+        ∙ ap (λ (os : List Origin). emit (columns z * lines z) (encode os) o) (sym (origins-differ (columns z) (columns z * lines z) kept new old f))

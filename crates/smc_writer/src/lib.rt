@@ -21,7 +21,11 @@ pub fn write_chunk(size: Size, old: &[u8], new: &[u8], out: &mut [u8]) -> Answer
 {
     let number = sizes::pictures_fault(size, old.len(), new.len());
     if number != Answer::OK {
-        return Answer { number, place: 0 };
+        return Answer {
+            number,
+            place: 0,
+            block: 0,
+        };
     }
     let columns = size.width / 4;
     let lines = size.height / 4;

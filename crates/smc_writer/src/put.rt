@@ -152,18 +152,20 @@ fn put_chunk(out: &mut [u8], kept: &[u8], new: &[u8], c: usize, r: usize) -> usi
 pub fn emit(out: &mut [u8], kept: &[u8], new: &[u8], c: usize, r: usize) -> Answer
     requires { ⌜ Canvas c r (now new) ⌝ }
     requires { ⌜ c * r ≤ length (now kept) ⌝ }
-    ensures { λ a. ⌜ a ≡ emit (encode (origins c (c * r) (now (kept .entry)) (now (new .entry)))) (now (out .entry)) .answer ⌝ }
-    ensures { λ _. ⌜ now (out .exit) ≡ emit (encode (origins c (c * r) (now (kept .entry)) (now (new .entry)))) (now (out .entry)) .output ⌝ }
+    ensures { λ a. ⌜ a ≡ emit (c * r) (encode (origins c (c * r) (now (kept .entry)) (now (new .entry)))) (now (out .entry)) .answer ⌝ }
+    ensures { λ _. ⌜ now (out .exit) ≡ emit (c * r) (encode (origins c (c * r) (now (kept .entry)) (now (new .entry)))) (now (out .entry)) .output ⌝ }
 {
     if fits(kept, new, c, r, out.len()) {
         let length = put_chunk(out, kept, new, c, r);
         return Answer {
             number: Answer::OK,
             place: length,
+            block: c * r,
         };
     }
     Answer {
         number: Answer::OUTPUT_SHORT,
         place: 0,
+        block: 0,
     }
 }

@@ -105,7 +105,7 @@ pub ends-chunks : (fuel : ℕ) (s : List ℕ) (at : ℕ) → Ends (chunksFrom fu
 unfolding chunksFrom
 ends-chunks fuel s at =
     by-fuel _ _ _ (λ (at : ℕ). Unit {0}) (λ (cs : Chunks). Ends (cs .ending .number))
-    (λ onward at u h. ends-onward onward s at (nextAt s at) (λ p. h p tt) (stands s at)) (λ at u. whole) fuel at tt
+    (λ onward at t u h. ends-onward onward s at (nextAt s at) (λ p. h p tt) (stands s at)) (λ at u. whole) fuel at tt
 
 -- a walk whose first chunk says a
 abbrev pub saidFirst : Answer → Left Reply → Left Reply

@@ -14,13 +14,13 @@ if-congr false z h = refl
 module _ {S R : Type 0} (test : S → Bool) (turn : (S → R) → S → R) (finish : S → R) where
   -- what holds of every way out, by what holds at every turn
   pub by-fuel : (Inv : S → Type 0) (P : R → Type 0)
-      → ((onward : S → R) (st : S) → Inv st → ((st′ : S) → Inv st′ → P (onward st′)) → P (turn onward st))
+      → ((onward : S → R) (st : S) → test st ≡ true → Inv st → ((st′ : S) → Inv st′ → P (onward st′)) → P (turn onward st))
       → ((st : S) → Inv st → P (finish st))
       → (fuel : ℕ) (st : S) → Inv st → P (fuelled test turn finish fuel st)
   unfolding fuelled
   by-fuel Inv P go end zero st i = end st i
   by-fuel Inv P go end (suc fuel) st i =
-      by-test P (test st) (λ t. go _ st i (λ st′ i′. by-fuel Inv P go end fuel st′ i′)) (λ t. end st i)
+      by-test P (test st) (λ t. go _ st t i (λ st′ i′. by-fuel Inv P go end fuel st′ i′)) (λ t. end st i)
 
   pub fuel-end : (fuel : ℕ) (st : S) → test st ≡ false → fuelled test turn finish fuel st ≡ finish st
   unfolding fuelled if

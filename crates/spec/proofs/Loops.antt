@@ -27,9 +27,10 @@ onward : (n : ℕ) (s : List ℕ) (st : State) → Onward (st .at) (step n s st)
 unfolding step
 onward n s st = acts n s st (checked-head n s (st .at) (length (st .made)) (fills (st .tables)))
 
-same-resume : (f g : State → Outcome) (at : ℕ) {x : Step} → ((st : State) → at < st .at → f st ≡ g st) → Onward at x → resume f at x ≡ resume g at x
-same-resume f g at h stops = refl
-same-resume f g at h (goes {st} l) = h st l
+same-resume : (f g : State → Outcome) (st : State) {x : Step} → ((st′ : State) → st .at < st′ .at → f st′ ≡ g st′) → Onward (st .at) x
+    → resume f st x ≡ resume g st x
+same-resume f g st h stops = refl
+same-resume f g st h (goes {st = st′} l) = h st′ l
 
 module _ (n : ℕ) (s : List ℕ) where
   bytesLeft : State → ℕ
@@ -40,11 +41,11 @@ module _ (n : ℕ) (s : List ℕ) where
   done st e = rw (le-ltb (st .at) (length s) (omega arith), and-false)
 
   less : (f g : State → Outcome) (st : State) → goesOn n s st ≡ true → ((st′ : State) → bytesLeft st′ < bytesLeft st → f st′ ≡ g st′)
-      → resume f (st .at) (step n s st) ≡ resume g (st .at) (step n s st)
+      → resume f st (step n s st) ≡ resume g st (step n s st)
   unfolding bytesLeft
   less f g st t h =
       let l = ltb-true (st .at) (length s) (and-eq-true-iff (ltb (length (st .made)) n) (ltb (st .at) (length s)) .0 t .1) in
-      same-resume f g (st .at) (λ st′ o. h st′ (omega arith)) (onward n s st)
+      same-resume f g st (λ st′ o. h st′ (omega arith)) (onward n s st)
 
   pub loop-enough : (fuel : ℕ) (st : State) → length s ≤ st .at + fuel → loop (suc fuel) n s st ≡ loop fuel n s st
   unfolding loop bytesLeft
@@ -52,7 +53,7 @@ module _ (n : ℕ) (s : List ℕ) where
 
   -- with the fuel that `decode` gives it, or more
   pub unroll : (fuel : ℕ) (st : State) → length s ≤ fuel → length (st .made) < n → st .at < length s
-      → loop fuel n s st ≡ resume (λ st′. loop fuel n s st′) (st .at) (step n s st)
+      → loop fuel n s st ≡ resume (λ st′. loop fuel n s st′) st (step n s st)
   unfolding loop bytesLeft
   unroll fuel st h l m =
       fuel-turn _ _ _ bytesLeft done less fuel st (omega arith) (rw (lt-ltb (length (st .made)) n l, lt-ltb (st .at) (length s) m))

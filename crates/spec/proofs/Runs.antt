@@ -15,7 +15,7 @@ use Rattle.spec.specs.declared.Varint.the-variants.{Bad, Value}
 use Rattle.spec.specs.declared.Next.{Next}
 use Rattle.spec.specs.declared.Next.the-variants as Next
 use Rattle.spec.specs.Basics.{fuelled, part}
-use Rattle.spec.specs.Answers.{ok, answer}
+use Rattle.spec.specs.Answers.{ok, answerAt}
 use Rattle.spec.specs.Feeds.{groups, varintAt, chunkAt, nextAt, Placed, Chunks, andOnward, chunksFrom, chunksOf}
 use Rattle.spec.proofs.Lists.{by-test, if-along}
 use Rattle.spec.proofs.Varints.{short, cut-refused, Read, read-varint}
@@ -23,7 +23,7 @@ use Rattle.spec.proofs.Feeds.{Stands, stands, chunks-enough, unroll-chu
 
 -- an answer, a number, what stands somewhere, a chunk, and all of them, with every place p further on
 abbrev pub later : ℕ → Answer → Answer
-later p a = answer (a .number) (p + a .place)
+later p a = answerAt (a .number) (p + a .place) (a .block)
 
 abbrev laterNumber : ℕ → Varint → Varint
 laterNumber p (Bad e) = Bad e

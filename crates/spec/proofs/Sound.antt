@@ -80,16 +80,16 @@ module _ (n : ℕ) (some : 0 < n) where
       let f = ltb-false (length (st .made)) n full in
       accepts (record { size = omega arith; below = g .below })))
 
-  resumed : (onward : State → Outcome) (at : ℕ) {x : Step} → ((st : State) → Partial n (st .made) → Sound n (onward st))
-      → Steady n x → Sound n (resume onward at x)
-  resumed onward at f stops = refuses
-  resumed onward at f (goes {st} g) = f st g
+  resumed : (onward : State → Outcome) (st : State) {x : Step} → ((next : State) → Partial n (next .made) → Sound n (onward next))
+      → Steady n x → Sound n (resume onward st x)
+  resumed onward st f stops = refuses
+  resumed onward st f (goes {st = next} g) = f next g
 
   looped : (fuel : ℕ) (s : List ℕ) (st : State) → Partial n (st .made) → Sound n (loop fuel n s st)
   unfolding loop
   looped fuel s st g =
       by-fuel _ _ _ (λ (st : State). Partial n (st .made)) (Sound n)
-      (λ onward st g onto. resumed onward (st .at) onto (stepped s st (g .below))) (finished s) fuel st g
+      (λ onward st t g onto. resumed onward st onto (stepped s st (g .below))) (finished s) fuel st g
 
   pub decoded : (s : List ℕ) → Sound n (decode n s)
   unfolding decode

@@ -1,7 +1,7 @@
 -- A house number that is read: refused with 12 or 13, or a value within the limit, and a place further on in the feed; and the two size numbers.
 -- Assumes nothing.
 use Prim.Native.Nat.{ℕ, zero, suc, _+_, _*_, _<_, _≤_}
-use mathlib.Core.Path.{_≡_, subst}
+use mathlib.Core.Path.{_≡_, refl, subst}
 use mathlib.Core.Logic.{_≢_}
 use mathlib.Core.List.{List}
 use native.Mathlib.Omega.{arith}
@@ -53,17 +53,17 @@ read-varint s at = read-groups 4 1 0 s at at (omega arith)
 pub varint-got : (s : List ℕ) (at : ℕ) {v after : ℕ} → varintAt s at ≡ Value v after → Got s at v after
 varint-got s at e = subst (Read s at) e (read-varint s at)
 
--- size numbers fail with 12 or 13, or end within the feed
+-- size numbers fail with 12 or 13, at block 0, or end within the feed
 abbrev pub Numbered : List ℕ → SizeNumbers → Type 0
-Numbered s (Broken a) = Cut (a .number)
+Numbered s (Broken a) = Cut (a .number) × (a .block ≡ 0)
 Numbered s (Sized z p) = p ≤ length s
 
 numbered-lines : (s : List ℕ) (c at : ℕ) (x : Varint) → Read s at x → Numbered s (withLines c at x)
-numbered-lines s c at (Bad e) r = r
+numbered-lines s c at (Bad e) r = (r, refl)
 numbered-lines s c at (Value v p) r = r .within
 
 numbered-columns : (s : List ℕ) (x : Varint) → Read s 0 x → Numbered s (withColumns s x)
-numbered-columns s (Bad e) r = r
+numbered-columns s (Bad e) r = (r, refl)
 numbered-columns s (Value v p) r = numbered-lines s v p (varintAt s p) (read-varint s p)
 
 pub numbered : (s : List ℕ) {x : SizeNumbers} → sizeNumbers s ≡ x → Numbered s x

@@ -1,5 +1,5 @@
 -- 01, "Numbered outcomes", and the numbers of later requests: the name of each, and what it is given for. Assumes nothing.
-use Prim.Native.Nat.{ℕ, zero, suc}
+use Prim.Native.Nat.{ℕ, zero, suc, _<_, _≤_}
 use Rattle.spec.specs.declared.Answer.{Answer}
 
 -- accepted
@@ -86,9 +86,22 @@ badSegment = 19
 abbrev pub noEndMarker : ℕ
 noEndMarker = 20
 
--- a number and a place
+-- a number, a place, and the block at which it stopped
+abbrev pub answerAt : ℕ → ℕ → ℕ → Answer
+answerAt number place block = record { number = number; place = place; block = block }
+
+-- at block 0: where no block has been come to, and in the 0 of what reads and writes no chunk
 abbrev pub answer : ℕ → ℕ → Answer
-answer number place = record { number = number; place = place }
+answer number place = answerAt number place 0
+
+-- The block that goes with each number in what reads or writes chunks, for n blocks (trust/specs/Stops): with 0 and 11 the number of
+-- blocks, with 5 to 10 one of them, the first still waiting at that place (that it is the first, `Chunks` says), with all others 0
+pub data Stopped (n : ℕ) : Answer → Type 0 where
+  done : {place : ℕ} → Stopped n (answerAt ok place n)
+  follows : {place : ℕ} → Stopped n (answerAt bytesFollow place n)
+  waits : {number place block : ℕ} → blocksRemain ≤ number → number ≤ entryEmpty → block < n → Stopped n (answerAt number place block)
+  before : {number place : ℕ} → ok < number → number < blocksRemain → Stopped n (answer number place)
+  beyond : {number place : ℕ} → bytesFollow < number → Stopped n (answer number place)
 
 -- 1 and 2 come before anything else, at place 0: where one of them is given, that is the answer, and nothing else is looked at
 unfoldable pub checked : {A : Type 0} → ℕ → (Answer → A) → A → A

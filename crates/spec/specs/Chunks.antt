@@ -7,7 +7,7 @@ use lib.Dec.{leb, ltb, eqb}
 use lib.ListN.{length, getD, set, replicate}
 use Rattle.spec.specs.declared.Answer.{Answer}
 use Rattle.spec.specs.Basics.{if, fuelled, from, part}
-use Rattle.spec.specs.Answers.{ok, chunkShort, lengthDiffers, blocksRemain, opcodeCut, opcodeUnknown, noneBefore, pastLastBlock, entryEmpty, bytesFollow, answer}
+use Rattle.spec.specs.Answers.{ok, chunkShort, lengthDiffers, blocksRemain, opcodeCut, opcodeUnknown, noneBefore, pastLastBlock, entryEmpty, bytesFollow, answerAt, answer}
 use Rattle.spec.specs.Pictures.{Origin, given, held}
 use Rattle.spec.specs.Flags.{number, flags, chosen}
 
@@ -205,20 +205,20 @@ pub data Outcome : Type 0 where
 -- no opcode is left to read: "bytes end before an opcode, blocks remain" (5), "11 is looked for last", or all is well
 unfoldable pub finish : ℕ → List ℕ → State → Outcome
 finish n s st =
-    if (ltb (length (st .made)) n) (refused (answer blocksRemain (length s)))
-    (if (ltb (st .at) (length s)) (refused (answer bytesFollow (st .at))) (accepted (st .made)))
+    if (ltb (length (st .made)) n) (refused (answerAt blocksRemain (length s) (length (st .made))))
+    (if (ltb (st .at) (length s)) (refused (answerAt bytesFollow (st .at) n)) (accepted (st .made)))
 
--- a refusal at the place of its opcode, or what `onward` makes of the next state
-abbrev pub resume : (State → Outcome) → ℕ → Step → Outcome
-resume onward at (stop e) = refused (answer e at)
-resume onward at (go st) = onward st
+-- a refusal at the place and the block of its opcode, which the state stands before; or what `onward` makes of the next state
+abbrev pub resume : (State → Outcome) → State → Step → Outcome
+resume onward st (stop e) = refused (answerAt e (st .at) (length (st .made)))
+resume onward st (go next) = onward next
 
 -- "Then come opcodes until every block has had its turn". Each takes a byte, so the chunk's length is fuel enough
 abbrev pub goesOn : ℕ → List ℕ → State → Bool
 goesOn n s st = ltb (length (st .made)) n && ltb (st .at) (length s)
 
 unfoldable pub loop : ℕ → ℕ → List ℕ → State → Outcome
-loop fuel n s st = fuelled (goesOn n s) (λ onward st. resume onward (st .at) (step n s st)) (finish n s) fuel st
+loop fuel n s st = fuelled (goesOn n s) (λ onward st. resume onward st (step n s st)) (finish n s) fuel st
 
 -- "Byte 0 may be anything. Bytes 1 to 3, highest first, are the whole chunk's length, these four bytes included"
 unfoldable pub decode : ℕ → List ℕ → Outcome
@@ -226,7 +226,7 @@ decode n s =
     if (ltb (length s) 4) (refused (answer chunkShort 0))
     (if (not (eqb (number 256 (part s 1 3)) (length s))) (refused (answer lengthDiffers 0)) (loop (length s) n s start))
 
--- the answer to a chunk: for an accepted one the "length used"
+-- the answer to a chunk: for an accepted one the "length used", and the number of blocks, which have an origin each
 abbrev pub verdict : List ℕ → Outcome → Answer
 verdict s (refused a) = a
-verdict s (accepted os) = answer ok (length s)
+verdict s (accepted os) = answerAt ok (length s) (length os)

@@ -7,7 +7,7 @@ use mathlib.Core.Bool.{true}
 use lib.ListN.{length, drop, replicate}
 use Rattle.spec.specs.declared.Answer.{Answer}
 use Rattle.spec.specs.Basics.{from}
-use Rattle.spec.specs.Answers.{answer}
+use Rattle.spec.specs.Answers.{answerAt}
 use Rattle.spec.specs.Sizes.{blocks}
 use Rattle.spec.specs.Pictures.{given, held}
 use Rattle.spec.specs.Maps.{settled, fresh, unsettled}
@@ -16,12 +16,12 @@ use Rattle.spec.specs.Calls.{reading, walking, walkingRun}
 use Rattle.spec.specs.Rows.{Row, octet, sequence, lastGiven, readLengths, runLengths, writeLengths, maps, writes, encodes, varint, noVarint, places, prints, size, of, holds, hold}
 
 -- a chunk read over a starting picture and a fresh map
-abbrev pub reads : ℕ → ℕ → List ℕ → List ℕ → ℕ → ℕ → List ℕ → List ℕ → Row
-reads w h start s n p pic m = sequence w h start (reading s ∷ []) (reply [] (answer n p) ∷ []) pic m (unsettled m)
+abbrev pub reads : ℕ → ℕ → List ℕ → List ℕ → ℕ → ℕ → ℕ → List ℕ → List ℕ → Row
+reads w h start s n p k pic m = sequence w h start (reading s ∷ []) (reply [] (answerAt n p k) ∷ []) pic m (unsettled m)
 
 -- a chunk that is refused over a picture of nines and a fresh map: both stay
-abbrev pub refuses : ℕ → ℕ → List ℕ → ℕ → ℕ → Row
-refuses w h s n p = reads w h (of (w * h) 9) s n p (of (w * h) 9) (fresh (blocks (size w h)))
+abbrev pub refuses : ℕ → ℕ → List ℕ → ℕ → ℕ → ℕ → Row
+refuses w h s n p k = reads w h (of (w * h) 9) s n p k (of (w * h) 9) (fresh (blocks (size w h)))
 
 -- what read, write, fresh map and count answer where every lent buffer is empty: an allowed size gets 2
 abbrev pub sizes : ℕ → ℕ → ℕ → List Row
@@ -66,23 +66,23 @@ fifteen =
     -- 1: half-bytes 01 23 45 67 89 AB give 012456 and 89A37B
     octet (0x01 ∷ 0x23 ∷ 0x45 ∷ 0x67 ∷ 0x89 ∷ 0xAB ∷ []) 0x012456 0x89A37B
     -- 2: 8x4, all 32 pixels are 5
-    ∷ reads 8 4 (of 32 0) (0xE1 ∷ 0x00 ∷ 0x00 ∷ 0x06 ∷ 0x61 ∷ 0x05 ∷ []) 0 6 (of 32 5) (of 2 settled)
+    ∷ reads 8 4 (of 32 0) (0xE1 ∷ 0x00 ∷ 0x00 ∷ 0x06 ∷ 0x61 ∷ 0x05 ∷ []) 0 6 2 (of 32 5) (of 2 settled)
     -- 3 to 5: 8 at 4, 9 at 4, 10 at 4
-    ∷ refuses 4 4 (0xE1 ∷ 0x00 ∷ 0x00 ∷ 0x05 ∷ 0x20 ∷ []) 8 4
-    ∷ refuses 4 4 (0xE1 ∷ 0x00 ∷ 0x00 ∷ 0x05 ∷ 0x01 ∷ []) 9 4
-    ∷ refuses 4 4 (0xE1 ∷ 0x00 ∷ 0x00 ∷ 0x06 ∷ 0x90 ∷ 0x00 ∷ []) 10 4
+    ∷ refuses 4 4 (0xE1 ∷ 0x00 ∷ 0x00 ∷ 0x05 ∷ 0x20 ∷ []) 8 4 0
+    ∷ refuses 4 4 (0xE1 ∷ 0x00 ∷ 0x00 ∷ 0x05 ∷ 0x01 ∷ []) 9 4 0
+    ∷ refuses 4 4 (0xE1 ∷ 0x00 ∷ 0x00 ∷ 0x06 ∷ 0x90 ∷ 0x00 ∷ []) 10 4 0
     -- 6: lower left 7, the rest 3
-    ∷ reads 4 4 (of 16 0) (0xE1 ∷ 0x00 ∷ 0x00 ∷ 0x09 ∷ 0x80 ∷ 0x03 ∷ 0x07 ∷ 0x00 ∷ 0x08 ∷ []) 0 9 (of 12 3 ++ 7 ∷ of 3 3) (of 1 settled)
+    ∷ reads 4 4 (of 16 0) (0xE1 ∷ 0x00 ∷ 0x00 ∷ 0x09 ∷ 0x80 ∷ 0x03 ∷ 0x07 ∷ 0x00 ∷ 0x08 ∷ []) 0 9 1 (of 12 3 ++ 7 ∷ of 3 3) (of 1 settled)
     -- 7 to 10: 11 at 5, 5 at 4, 6 at 4, 7 at 4
-    ∷ refuses 4 4 (0xE1 ∷ 0x00 ∷ 0x00 ∷ 0x06 ∷ 0x00 ∷ 0xAA ∷ []) 11 5
-    ∷ refuses 4 4 (0xE1 ∷ 0x00 ∷ 0x00 ∷ 0x04 ∷ []) 5 4
-    ∷ refuses 4 4 (0xE1 ∷ 0x00 ∷ 0x00 ∷ 0x05 ∷ 0x10 ∷ []) 6 4
-    ∷ refuses 4 4 (0xE1 ∷ 0x00 ∷ 0x00 ∷ 0x05 ∷ 0xF0 ∷ []) 7 4
+    ∷ refuses 4 4 (0xE1 ∷ 0x00 ∷ 0x00 ∷ 0x06 ∷ 0x00 ∷ 0xAA ∷ []) 11 5 1
+    ∷ refuses 4 4 (0xE1 ∷ 0x00 ∷ 0x00 ∷ 0x04 ∷ []) 5 4 0
+    ∷ refuses 4 4 (0xE1 ∷ 0x00 ∷ 0x00 ∷ 0x05 ∷ 0x10 ∷ []) 6 4 0
+    ∷ refuses 4 4 (0xE1 ∷ 0x00 ∷ 0x00 ∷ 0x05 ∷ 0xF0 ∷ []) 7 4 0
     -- 11: 8x4, on a fresh map: map 0, 0
-    ∷ reads 8 4 (of 32 0) (0xE1 ∷ 0x00 ∷ 0x00 ∷ 0x06 ∷ 0x00 ∷ 0x20 ∷ []) 0 6 (of 32 0) (0 ∷ 0 ∷ [])
+    ∷ reads 8 4 (of 32 0) (0xE1 ∷ 0x00 ∷ 0x00 ∷ 0x06 ∷ 0x00 ∷ 0x20 ∷ []) 0 6 2 (of 32 0) (0 ∷ 0 ∷ [])
     -- 12: an empty chunk gets 3, a stated length of 7 gets 4; 320x200 is allowed; 324x4, 4x204, 6x4 and 0x4 get 1
-    ∷ refuses 4 4 [] 3 0
-    ∷ refuses 4 4 (0xE1 ∷ 0x00 ∷ 0x00 ∷ 0x07 ∷ 0x60 ∷ 0x05 ∷ []) 4 0
+    ∷ refuses 4 4 [] 3 0 0
+    ∷ refuses 4 4 (0xE1 ∷ 0x00 ∷ 0x00 ∷ 0x07 ∷ 0x60 ∷ 0x05 ∷ []) 4 0 0
     ∷ sizes 320 200 2 ++ sizes 324 4 1 ++ sizes 4 204 1 ++ sizes 6 4 1 ++ sizes 0 4 1
     -- 13: zeros to fives; equal pictures
     ++ writes 4 4 (of 16 0) (of 16 5) (0xE1 ∷ 0x00 ∷ 0x00 ∷ 0x06 ∷ 0x60 ∷ 0x05 ∷ [])
@@ -91,57 +91,65 @@ fifteen =
     ∷ varint (0xAC ∷ 0x02 ∷ []) 300 2
     ∷ noVarint (0x80 ∷ 0x00 ∷ []) 12
     -- 15: 16x4, blocks of 1, 2, 1, 2
-    ∷ reads 16 4 (of 64 0) (0xE1 ∷ 0x00 ∷ 0x00 ∷ 0x09 ∷ 0x60 ∷ 0x01 ∷ 0x60 ∷ 0x02 ∷ 0x40 ∷ []) 0 9 (line (1 ∷ 2 ∷ 1 ∷ 2 ∷ [])) (of 4 settled)
+    ∷ reads 16 4 (of 64 0) (0xE1 ∷ 0x00 ∷ 0x00 ∷ 0x09 ∷ 0x60 ∷ 0x01 ∷ 0x60 ∷ 0x02 ∷ 0x40 ∷ []) 0 9 4 (line (1 ∷ 2 ∷ 1 ∷ 2 ∷ [])) (of 4 settled)
     -- the listing's feed, from an all-zero picture
     ∷ sequence 8 4 (of 32 0) (walking listingFeed ∷ [])
-    (reply (answer 0 6 ∷ answer 5 4 ∷ answer 0 6 ∷ []) (answer 0 21) ∷ []) (of 32 5) (of 2 settled) 0
-    ∷ prints listingFeed "board 8 4\n1 0 6 2\n2 5 4 2\n3 0 6 0\nend 0 21\n"
+    (reply (answerAt 0 6 2 ∷ answerAt 5 4 0 ∷ answerAt 0 6 2 ∷ []) (answerAt 0 21 2) ∷ []) (of 32 5) (of 2 settled) 0
+    ∷ prints listingFeed "board 8 4\n1 0 6 2 2\n2 5 4 2 0\n3 0 6 0 2\nend 0 21\n"
     ∷ []
 
 unfoldable pub further : List Row
 further =
     -- a quad block: the low bits of the first flag byte are 3, so the upper right pixel has the fourth colour (003)
-    reads 4 4 (of 16 0) (chunk (0xA0 ∷ 0x10 ∷ 0x11 ∷ 0x12 ∷ 0x13 ∷ 0x03 ∷ 0x00 ∷ 0x00 ∷ 0x00 ∷ [])) 0 13 (of 3 0x10 ++ 0x13 ∷ of 12 0x10) (of 1 settled)
+    reads 4 4 (of 16 0) (chunk (0xA0 ∷ 0x10 ∷ 0x11 ∷ 0x12 ∷ 0x13 ∷ 0x03 ∷ 0x00 ∷ 0x00 ∷ 0x00 ∷ [])) 0 13 1 (of 3 0x10 ++ 0x13 ∷ of 12 0x10) (of 1 settled)
     -- an octet block: 012456 and 89A37B in octal are 00222126 and 42321573
-    ∷ reads 4 4 (of 16 9) (chunk (0xC0 ∷ 0x00 ∷ 0x01 ∷ 0x02 ∷ 0x03 ∷ 0x04 ∷ 0x05 ∷ 0x06 ∷ 0x07 ∷ 0x01 ∷ 0x23 ∷ 0x45 ∷ 0x67 ∷ 0x89 ∷ 0xAB ∷ [])) 0 19 octetBlock (of 1 settled)
+    ∷ reads 4 4 (of 16 9) (chunk (0xC0 ∷ 0x00 ∷ 0x01 ∷ 0x02 ∷ 0x03 ∷ 0x04 ∷ 0x05 ∷ 0x06 ∷ 0x07 ∷ 0x01 ∷ 0x23 ∷ 0x45 ∷ 0x67 ∷ 0x89 ∷ 0xAB ∷ [])) 0 19 1 octetBlock (of 1 settled)
     -- a whole block, row by row; byte 0 may be anything
-    ∷ reads 8 4 (of 32 9) (0x00 ∷ 0x00 ∷ 0x00 ∷ 0x16 ∷ 0x00 ∷ 0xE0 ∷ from 0 16) 0 22
+    ∷ reads 8 4 (of 32 9) (0x00 ∷ 0x00 ∷ 0x00 ∷ 0x16 ∷ 0x00 ∷ 0xE0 ∷ from 0 16) 0 22 2
     (of 4 9 ++ from 0 4 ++ of 4 9 ++ from 4 4 ++ of 4 9 ++ from 8 4 ++ of 4 9 ++ from 12 4) (0 ∷ settled ∷ [])
     -- several blocks to one opcode with flags, and to one whole; entries are kept by a later skip
-    ∷ reads 8 4 (of 32 0) (chunk (0x81 ∷ 0x01 ∷ 0x02 ∷ 0x00 ∷ 0x00 ∷ 0xFF ∷ 0xFF ∷ [])) 0 11 (line (1 ∷ 2 ∷ [])) (of 2 settled)
-    ∷ reads 8 4 (of 32 0) (chunk (0xE1 ∷ of 16 1 ++ of 16 2)) 0 37 (line (1 ∷ 2 ∷ [])) (of 2 settled)
+    ∷ reads 8 4 (of 32 0) (chunk (0x81 ∷ 0x01 ∷ 0x02 ∷ 0x00 ∷ 0x00 ∷ 0xFF ∷ 0xFF ∷ [])) 0 11 2 (line (1 ∷ 2 ∷ [])) (of 2 settled)
+    ∷ reads 8 4 (of 32 0) (chunk (0xE1 ∷ of 16 1 ++ of 16 2)) 0 37 2 (line (1 ∷ 2 ∷ [])) (of 2 settled)
     ∷ sequence 8 4 (line (1 ∷ 2 ∷ [])) (reading (chunk (0x60 ∷ 0x05 ∷ 0x00 ∷ [])) ∷ reading (chunk (0x01 ∷ [])) ∷ [])
-    (reply [] (answer 0 7) ∷ reply [] (answer 0 5) ∷ []) (line (5 ∷ 2 ∷ [])) (settled ∷ 1 ∷ []) 1
+    (reply [] (answerAt 0 7 2) ∷ reply [] (answerAt 0 5 2) ∷ []) (line (5 ∷ 2 ∷ [])) (settled ∷ 1 ∷ []) 1
     -- copies at a line's first block, and in pairs at its first and at its second: the block before stands across the line's end
-    ∷ reads 8 8 (of 64 0) (chunk (0x60 ∷ 0x01 ∷ 0x60 ∷ 0x02 ∷ 0x21 ∷ [])) 0 9 (line (1 ∷ 2 ∷ []) ++ line (2 ∷ 2 ∷ [])) (of 4 settled)
-    ∷ reads 8 8 (of 64 0) (chunk (0x60 ∷ 0x01 ∷ 0x60 ∷ 0x02 ∷ 0x40 ∷ [])) 0 9 (line (1 ∷ 2 ∷ []) ++ line (1 ∷ 2 ∷ [])) (of 4 settled)
-    ∷ reads 12 8 (of 96 0) (chunk (0x60 ∷ 0x01 ∷ 0x60 ∷ 0x02 ∷ 0x60 ∷ 0x03 ∷ 0x60 ∷ 0x04 ∷ 0x40 ∷ [])) 0 13 (line (1 ∷ 2 ∷ 3 ∷ []) ++ line (4 ∷ 3 ∷ 4 ∷ [])) (of 6 settled)
+    ∷ reads 8 8 (of 64 0) (chunk (0x60 ∷ 0x01 ∷ 0x60 ∷ 0x02 ∷ 0x21 ∷ [])) 0 9 4 (line (1 ∷ 2 ∷ []) ++ line (2 ∷ 2 ∷ [])) (of 4 settled)
+    ∷ reads 8 8 (of 64 0) (chunk (0x60 ∷ 0x01 ∷ 0x60 ∷ 0x02 ∷ 0x40 ∷ [])) 0 9 4 (line (1 ∷ 2 ∷ []) ++ line (1 ∷ 2 ∷ [])) (of 4 settled)
+    ∷ reads 12 8 (of 96 0) (chunk (0x60 ∷ 0x01 ∷ 0x60 ∷ 0x02 ∷ 0x60 ∷ 0x03 ∷ 0x60 ∷ 0x04 ∷ 0x40 ∷ [])) 0 13 6 (line (1 ∷ 2 ∷ 3 ∷ []) ++ line (4 ∷ 3 ∷ 4 ∷ [])) (of 6 settled)
     -- 1, 3, 5 and 7 have a count byte, and their lower half-byte plays no part; 5 counts pairs
-    ∷ reads 16 4 (of 64 9) (chunk (0x1F ∷ 0x00 ∷ 0x7A ∷ 0x02 ∷ 0x05 ∷ [])) 0 9 (line (9 ∷ 5 ∷ 5 ∷ 5 ∷ [])) (0 ∷ of 3 settled)
-    ∷ reads 16 4 (of 64 9) (chunk (0x60 ∷ 0x05 ∷ 0x37 ∷ 0x02 ∷ [])) 0 8 (line (of 4 5)) (of 4 settled)
-    ∷ reads 24 4 (of 96 9) (chunk (0x60 ∷ 0x05 ∷ 0x60 ∷ 0x06 ∷ 0x5C ∷ 0x01 ∷ [])) 0 10 (line (5 ∷ 6 ∷ 5 ∷ 6 ∷ 5 ∷ 6 ∷ [])) (of 6 settled)
-    ∷ refuses 16 4 (chunk (0x60 ∷ 0x05 ∷ 0x30 ∷ [])) 6 6
-    ∷ refuses 20 4 (chunk (0x60 ∷ 0x05 ∷ 0x60 ∷ 0x06 ∷ 0x50 ∷ 0x01 ∷ [])) 9 8
+    ∷ reads 16 4 (of 64 9) (chunk (0x1F ∷ 0x00 ∷ 0x7A ∷ 0x02 ∷ 0x05 ∷ [])) 0 9 4 (line (9 ∷ 5 ∷ 5 ∷ 5 ∷ [])) (0 ∷ of 3 settled)
+    ∷ reads 16 4 (of 64 9) (chunk (0x60 ∷ 0x05 ∷ 0x37 ∷ 0x02 ∷ [])) 0 8 4 (line (of 4 5)) (of 4 settled)
+    ∷ reads 24 4 (of 96 9) (chunk (0x60 ∷ 0x05 ∷ 0x60 ∷ 0x06 ∷ 0x5C ∷ 0x01 ∷ [])) 0 10 6 (line (5 ∷ 6 ∷ 5 ∷ 6 ∷ 5 ∷ 6 ∷ [])) (of 6 settled)
+    ∷ refuses 16 4 (chunk (0x60 ∷ 0x05 ∷ 0x30 ∷ [])) 6 6 1
+    ∷ refuses 20 4 (chunk (0x60 ∷ 0x05 ∷ 0x60 ∷ 0x06 ∷ 0x50 ∷ 0x01 ∷ [])) 9 8 2
     -- 9, B and D name entry 1 of 2; entry 2 is not filled, nor is one that only another table has
-    ∷ reads 12 4 (of 48 0) (chunk (0x80 ∷ 0x01 ∷ 0x02 ∷ 0x00 ∷ 0x00 ∷ 0x80 ∷ 0x03 ∷ 0x04 ∷ 0xFF ∷ 0xFF ∷ 0x90 ∷ 0x01 ∷ 0x00 ∷ 0x00 ∷ [])) 0 18 (line (1 ∷ 4 ∷ 3 ∷ [])) (of 3 settled)
+    ∷ reads 12 4 (of 48 0) (chunk (0x80 ∷ 0x01 ∷ 0x02 ∷ 0x00 ∷ 0x00 ∷ 0x80 ∷ 0x03 ∷ 0x04 ∷ 0xFF ∷ 0xFF ∷ 0x90 ∷ 0x01 ∷ 0x00 ∷ 0x00 ∷ [])) 0 18 3 (line (1 ∷ 4 ∷ 3 ∷ [])) (of 3 settled)
     ∷ reads 12 4 (of 48 0)
     (chunk (0xA0 ∷ 0x01 ∷ 0x02 ∷ 0x03 ∷ 0x04 ∷ 0x00 ∷ 0x00 ∷ 0x00 ∷ 0x00 ∷ 0xA0 ∷ 0x05 ∷ 0x06 ∷ 0x07 ∷ 0x08 ∷ 0xFF ∷ 0xFF ∷ 0xFF ∷ 0xFF ∷ 0xB0 ∷ 0x01 ∷ 0x55 ∷ 0x55 ∷ 0x55 ∷ 0x55 ∷ []))
-    0 28 (line (1 ∷ 8 ∷ 6 ∷ [])) (of 3 settled)
+    0 28 3 (line (1 ∷ 8 ∷ 6 ∷ [])) (of 3 settled)
     ∷ reads 12 4 (of 48 0)
     (chunk (0xC0 ∷ from 1 8 ++ of 6 0x00 ++ 0xC0 ∷ from 9 8 ++ of 6 0xFF ++ 0xD0 ∷ 0x01 ∷ of 6 0x00))
-    0 42 (line (1 ∷ 16 ∷ 9 ∷ [])) (of 3 settled)
-    ∷ refuses 12 4 (chunk (0x80 ∷ 0x01 ∷ 0x02 ∷ 0x00 ∷ 0x00 ∷ 0x80 ∷ 0x03 ∷ 0x04 ∷ 0xFF ∷ 0xFF ∷ 0x90 ∷ 0x02 ∷ 0x00 ∷ 0x00 ∷ [])) 10 14
-    ∷ refuses 12 4 (chunk (0x80 ∷ 0x01 ∷ 0x02 ∷ 0x00 ∷ 0x00 ∷ 0xB0 ∷ 0x00 ∷ 0xFF ∷ 0xFF ∷ [])) 10 9
+    0 42 3 (line (1 ∷ 16 ∷ 9 ∷ [])) (of 3 settled)
+    ∷ refuses 12 4 (chunk (0x80 ∷ 0x01 ∷ 0x02 ∷ 0x00 ∷ 0x00 ∷ 0x80 ∷ 0x03 ∷ 0x04 ∷ 0xFF ∷ 0xFF ∷ 0x90 ∷ 0x02 ∷ 0x00 ∷ 0x00 ∷ [])) 10 14 2
+    ∷ refuses 12 4 (chunk (0x80 ∷ 0x01 ∷ 0x02 ∷ 0x00 ∷ 0x00 ∷ 0xB0 ∷ 0x00 ∷ 0xFF ∷ 0xFF ∷ [])) 10 9 1
     -- the order within an opcode: the count byte (6) before 8, 8 before 9, 9 before the colours (6), the entry number (6) before 10, flags (6)
-    ∷ refuses 4 4 (chunk (0x30 ∷ [])) 6 4
-    ∷ refuses 4 4 (chunk (0x30 ∷ 0xFF ∷ [])) 8 4
-    ∷ refuses 8 4 (chunk (0x60 ∷ 0x05 ∷ 0x40 ∷ [])) 8 6
-    ∷ refuses 4 4 (chunk (0x81 ∷ [])) 9 4
-    ∷ refuses 4 4 (chunk (0x90 ∷ [])) 6 4
-    ∷ refuses 4 4 (chunk (0x80 ∷ 0x01 ∷ 0x02 ∷ 0xFF ∷ [])) 6 4
+    ∷ refuses 4 4 (chunk (0x30 ∷ [])) 6 4 0
+    ∷ refuses 4 4 (chunk (0x30 ∷ 0xFF ∷ [])) 8 4 0
+    ∷ refuses 8 4 (chunk (0x60 ∷ 0x05 ∷ 0x40 ∷ [])) 8 6 1
+    ∷ refuses 4 4 (chunk (0x81 ∷ [])) 9 4 0
+    ∷ refuses 4 4 (chunk (0x90 ∷ [])) 6 4 0
+    ∷ refuses 4 4 (chunk (0x80 ∷ 0x01 ∷ 0x02 ∷ 0xFF ∷ [])) 6 4 0
+    -- the first block still waiting: where the bytes end after one opcode, in the count byte, the colours, the flags of an opcode's second
+    -- block; at an opcode F after a pair of blocks; and all of them, where bytes follow
+    ∷ refuses 16 4 (chunk (0x01 ∷ [])) 5 5 2
+    ∷ refuses 16 4 (chunk (0x02 ∷ 0x10 ∷ [])) 6 5 3
+    ∷ refuses 16 4 (chunk (0x10 ∷ 0x02 ∷ 0x60 ∷ [])) 6 6 3
+    ∷ refuses 16 4 (chunk (0x00 ∷ 0x81 ∷ 0x01 ∷ 0x02 ∷ 0x00 ∷ 0x00 ∷ 0x00 ∷ [])) 6 5 1
+    ∷ refuses 24 4 (chunk (0x60 ∷ 0x05 ∷ 0x60 ∷ 0x06 ∷ 0x40 ∷ 0xF0 ∷ [])) 7 9 4
+    ∷ refuses 12 4 (chunk (0x02 ∷ 0x00 ∷ [])) 11 5 3
     -- a chunk of three bytes; the stated length's highest byte; lengths: where size and lengths are right, an empty chunk gets 3 and an empty output 14
-    ∷ refuses 4 4 (0xE1 ∷ 0x00 ∷ 0x03 ∷ []) 3 0
-    ∷ refuses 4 4 (0xE1 ∷ 0x01 ∷ 0x00 ∷ 0x05 ∷ 0x00 ∷ []) 4 0
+    ∷ refuses 4 4 (0xE1 ∷ 0x00 ∷ 0x03 ∷ []) 3 0 0
+    ∷ refuses 4 4 (0xE1 ∷ 0x01 ∷ 0x00 ∷ 0x05 ∷ 0x00 ∷ []) 4 0 0
     ∷ readLengths 8 4 32 2 3
     ∷ readLengths 8 4 31 2 2
     ∷ readLengths 8 4 32 3 2
@@ -156,11 +164,11 @@ further =
     ∷ lastGiven 258 (0xE1 ∷ 0x00 ∷ 0x05 ∷ 0x0D ∷ pairs 0 257 ++ 0x90 ∷ 0x01 ∷ 0x00 ∷ 0x00 ∷ []) (of 16 1)
     -- a settled block is unsettled by a copy, and the count rises
     ∷ sequence 8 4 (line (1 ∷ 2 ∷ [])) (reading (chunk (0x00 ∷ 0x60 ∷ 0x05 ∷ [])) ∷ [])
-    (reply [] (answer 0 7) ∷ []) (line (1 ∷ 5 ∷ [])) (0 ∷ settled ∷ []) 1
+    (reply [] (answerAt 0 7 2) ∷ []) (line (1 ∷ 5 ∷ [])) (0 ∷ settled ∷ []) 1
     ∷ sequence 8 4 (line (1 ∷ 2 ∷ [])) (reading (chunk (0x00 ∷ 0x60 ∷ 0x05 ∷ [])) ∷ reading (chunk (0x00 ∷ 0x20 ∷ [])) ∷ [])
-    (reply [] (answer 0 7) ∷ reply [] (answer 0 6) ∷ []) (line (1 ∷ 1 ∷ [])) (0 ∷ 0 ∷ []) 2
+    (reply [] (answerAt 0 7 2) ∷ reply [] (answerAt 0 6 2) ∷ []) (line (1 ∷ 1 ∷ [])) (0 ∷ 0 ∷ []) 2
     -- a skip in front of a copy: the block before, and not the last painted one
-    ∷ reads 12 4 (line (1 ∷ 2 ∷ 3 ∷ [])) (chunk (0x60 ∷ 0x05 ∷ 0x00 ∷ 0x20 ∷ [])) 0 8 (line (5 ∷ 2 ∷ 2 ∷ [])) (settled ∷ 1 ∷ 1 ∷ [])
+    ∷ reads 12 4 (line (1 ∷ 2 ∷ 3 ∷ [])) (chunk (0x60 ∷ 0x05 ∷ 0x00 ∷ 0x20 ∷ [])) 0 8 3 (line (5 ∷ 2 ∷ 2 ∷ [])) (settled ∷ 1 ∷ 1 ∷ [])
     -- numbers: the greatest, one above it, a fourth group with its top bit, and one that the bytes cut short
     ∷ varint (0xFF ∷ 0xFF ∷ 0xFF ∷ 0x07 ∷ []) 16777215 4
     ∷ noVarint (0x80 ∷ 0x80 ∷ 0x80 ∷ 0x08 ∷ []) 12
@@ -169,43 +177,48 @@ further =
     ∷ noVarint [] 13
     -- feeds: width first; a chunk length of 0; an end inside a chunk, after a good one; sizes that get 1, and 2; a size number cut short
     ∷ sequence 8 4 (of 32 9) (walking (0x02 ∷ 0x01 ∷ 0x08 ∷ 0xE1 ∷ 0x00 ∷ 0x00 ∷ 0x08 ∷ 0x60 ∷ 0x01 ∷ 0x60 ∷ 0x02 ∷ []) ∷ [])
-    (reply (answer 0 8 ∷ []) (answer 0 11) ∷ []) (line (1 ∷ 2 ∷ [])) (of 2 settled) 0
-    ∷ sequence 8 4 (of 32 9) (walking (0x02 ∷ 0x01 ∷ 0x00 ∷ []) ∷ []) (reply (answer 3 0 ∷ []) (answer 0 3) ∷ []) (of 32 9) (0 ∷ 1 ∷ []) 2
+    (reply (answerAt 0 8 2 ∷ []) (answerAt 0 11 2) ∷ []) (line (1 ∷ 2 ∷ [])) (of 2 settled) 0
+    ∷ sequence 8 4 (of 32 9) (walking (0x02 ∷ 0x01 ∷ 0x00 ∷ []) ∷ []) (reply (answerAt 3 0 0 ∷ []) (answerAt 0 3 2) ∷ []) (of 32 9) (0 ∷ 1 ∷ []) 2
     ∷ sequence 8 4 (of 32 9) (walking (0x02 ∷ 0x01 ∷ 0x06 ∷ 0xE1 ∷ 0x00 ∷ 0x00 ∷ 0x06 ∷ 0x61 ∷ 0x05 ∷ 0x05 ∷ 0xE1 ∷ []) ∷ [])
-    (reply (answer 0 6 ∷ []) (answer 13 10) ∷ []) (of 32 5) (of 2 settled) 0
+    (reply (answerAt 0 6 2 ∷ []) (answerAt 13 10 0) ∷ []) (of 32 5) (of 2 settled) 0
     ∷ sequence 8 4 (of 32 9) (walking (0x51 ∷ 0x32 ∷ []) ∷ walking (0x03 ∷ 0x01 ∷ 0x05 ∷ 0xE1 ∷ 0x00 ∷ 0x00 ∷ 0x05 ∷ 0x02 ∷ []) ∷ walking (0x02 ∷ 0x80 ∷ []) ∷ [])
-    (reply [] (answer 1 0) ∷ reply [] (answer 2 0) ∷ reply [] (answer 13 1) ∷ []) (of 32 9) (0 ∷ 1 ∷ []) 2
+    (reply [] (answerAt 1 0 0) ∷ reply [] (answerAt 2 0 0) ∷ reply [] (answerAt 13 1 0) ∷ []) (of 32 9) (0 ∷ 1 ∷ []) 2
     -- feed numbers that fail: each size number, before the size is looked at, and a chunk's length
     ∷ sequence 8 4 (of 32 9) (walking (0x80 ∷ 0x00 ∷ 0x01 ∷ []) ∷ walking (0x51 ∷ []) ∷ walking (0x02 ∷ 0x01 ∷ 0x80 ∷ 0x00 ∷ []) ∷ walking (0x02 ∷ 0x01 ∷ 0x80 ∷ []) ∷ [])
-    (reply [] (answer 12 0) ∷ reply [] (answer 13 1) ∷ reply [] (answer 12 2) ∷ reply [] (answer 13 2) ∷ []) (of 32 9) (0 ∷ 1 ∷ []) 2
+    (reply [] (answerAt 12 0 0) ∷ reply [] (answerAt 13 1 0) ∷ reply [] (answerAt 12 2 0) ∷ reply [] (answerAt 13 2 0) ∷ []) (of 32 9) (0 ∷ 1 ∷ []) 2
     -- runs: the chunks of 01's listing; none; a whole feed, whose size numbers are taken for a length and a chunk
     ∷ sequence 8 4 (of 32 0) (walkingRun (drop 2 listingFeed) ∷ [])
-    (says (answer 0 6 ∷ answer 5 4 ∷ answer 0 6 ∷ []) 2 (answer 0 19) ∷ []) (of 32 5) (of 2 settled) 0
+    (says (answerAt 0 6 2 ∷ answerAt 5 4 0 ∷ answerAt 0 6 2 ∷ []) 2 (answerAt 0 19 2) ∷ []) (of 32 5) (of 2 settled) 0
     ∷ sequence 8 4 (of 32 9) (walkingRun [] ∷ walkingRun listingFeed ∷ [])
-    (says [] 0 (answer 0 0) ∷ says (answer 3 0 ∷ []) 0 (answer 12 3) ∷ []) (of 32 9) (0 ∷ 1 ∷ []) 2
+    (says [] 0 (answerAt 0 0 2) ∷ says (answerAt 3 0 0 ∷ []) 0 (answerAt 12 3 0) ∷ []) (of 32 9) (0 ∷ 1 ∷ []) 2
     -- a chunk is read over what the one before it left; the first and the last are refused
     ∷ sequence 8 4 (of 32 9) (walkingRun (0x00 ∷ 0x08 ∷ chunk (0x60 ∷ 0x01 ∷ 0x60 ∷ 0x02 ∷ []) ++ 0x06 ∷ chunk (0x00 ∷ 0x20 ∷ []) ++ 0x05 ∷ chunk (0xF0 ∷ [])) ∷ [])
-    (says (answer 3 0 ∷ answer 0 8 ∷ answer 0 6 ∷ answer 7 4 ∷ []) 2 (answer 0 23) ∷ []) (line (1 ∷ 1 ∷ [])) (of 2 settled) 0
+    (says (answerAt 3 0 0 ∷ answerAt 0 8 2 ∷ answerAt 0 6 2 ∷ answerAt 7 4 0 ∷ []) 2 (answerAt 0 23 2) ∷ []) (line (1 ∷ 1 ∷ [])) (of 2 settled) 0
     -- the number is badly formed, cut short, or has fewer bytes behind it: what was accepted before stays, and is counted
     ∷ sequence 8 4 (of 32 9) (walkingRun (0x07 ∷ chunk (0x00 ∷ 0x60 ∷ 0x05 ∷ []) ++ 0x80 ∷ 0x00 ∷ []) ∷ [])
-    (says (answer 0 7 ∷ []) 1 (answer 12 8) ∷ []) (line (9 ∷ 5 ∷ [])) (0 ∷ settled ∷ []) 1
+    (says (answerAt 0 7 2 ∷ []) 1 (answerAt 12 8 0) ∷ []) (line (9 ∷ 5 ∷ [])) (0 ∷ settled ∷ []) 1
     ∷ sequence 8 4 (of 32 9) (walkingRun (0x07 ∷ chunk (0x00 ∷ 0x60 ∷ 0x05 ∷ []) ++ 0x80 ∷ []) ∷ [])
-    (says (answer 0 7 ∷ []) 1 (answer 13 8) ∷ []) (line (9 ∷ 5 ∷ [])) (0 ∷ settled ∷ []) 1
+    (says (answerAt 0 7 2 ∷ []) 1 (answerAt 13 8 0) ∷ []) (line (9 ∷ 5 ∷ [])) (0 ∷ settled ∷ []) 1
     ∷ sequence 8 4 (of 32 9) (walkingRun (0x07 ∷ chunk (0x00 ∷ 0x60 ∷ 0x05 ∷ []) ++ 0x07 ∷ chunk (0x61 ∷ 0x01 ∷ [])) ∷ [])
-    (says (answer 0 7 ∷ []) 1 (answer 13 9) ∷ []) (line (9 ∷ 5 ∷ [])) (0 ∷ settled ∷ []) 1
+    (says (answerAt 0 7 2 ∷ []) 1 (answerAt 13 9 0) ∷ []) (line (9 ∷ 5 ∷ [])) (0 ∷ settled ∷ []) 1
+    -- a refused chunk has its own block, and the run all of them
+    ∷ sequence 12 8 (of 96 9) (walkingRun (0x05 ∷ chunk (0x01 ∷ []) ++ 0x05 ∷ chunk (0x05 ∷ [])) ∷ [])
+    (says (answerAt 5 5 2 ∷ answerAt 0 5 6 ∷ []) 1 (answerAt 0 12 6) ∷ []) (of 96 9) (from 0 6) 6
     -- size and lengths: right; the picture's wrong, the map's wrong, 1 before 2
-    ∷ runLengths 8 4 32 2 (says (answer 3 0 ∷ []) 0 (answer 0 1))
-    ∷ runLengths 8 4 31 2 (says [] 0 (answer 2 0))
-    ∷ runLengths 8 4 32 3 (says [] 0 (answer 2 0))
-    ∷ runLengths 6 4 24 2 (says [] 0 (answer 1 0))
+    ∷ runLengths 8 4 32 2 (says (answerAt 3 0 0 ∷ []) 0 (answerAt 0 1 2))
+    ∷ runLengths 8 4 31 2 (says [] 0 (answerAt 2 0 0))
+    ∷ runLengths 8 4 32 3 (says [] 0 (answerAt 2 0 0))
+    ∷ runLengths 6 4 24 2 (says [] 0 (answerAt 1 0 0))
     -- the places of the chunks of 01's listing: each one's number, its first byte, and after its last
     ∷ places listingFeed 2 (2 ∷ 3 ∷ 9 ∷ 9 ∷ 10 ∷ 14 ∷ 14 ∷ 15 ∷ 21 ∷ [])
     -- the board program: no bytes; an empty chunk; a feed that ends where a chunk would start; a copy that unsettles, and numbers of two digits
     ∷ prints [] "end 13 0\n"
-    ∷ prints (0x02 ∷ 0x01 ∷ 0x00 ∷ []) "board 8 4\n1 3 0 2\nend 0 3\n"
+    ∷ prints (0x02 ∷ 0x01 ∷ 0x00 ∷ []) "board 8 4\n1 3 0 2 0\nend 0 3\n"
     ∷ prints (0x02 ∷ 0x01 ∷ 0x05 ∷ []) "board 8 4\nend 13 3\n"
     ∷ prints (0x03 ∷ 0x01 ∷ 0x07 ∷ chunk (0x00 ∷ 0x61 ∷ 0x05 ∷ []) ++ 0x07 ∷ chunk (0x00 ∷ 0x20 ∷ 0x00 ∷ []) ++ 0x05 ∷ chunk (0xF0 ∷ []))
-    "board 12 4\n1 0 7 1\n2 0 7 2\n3 7 4 2\nend 0 24\n"
+    "board 12 4\n1 0 7 1 3\n2 0 7 2 3\n3 7 4 2 0\nend 0 24\n"
+    -- five numbers, each another
+    ∷ prints (0x03 ∷ 0x01 ∷ 0x06 ∷ chunk (0x00 ∷ 0x00 ∷ [])) "board 12 4\n1 5 6 3 2\nend 0 9\n"
     -- its limits: a size that gets 1; a size number that fails; 16,000 pixels and 16,016; 32,768 bytes and 32,769, before a bad number is looked at
     ∷ prints (0x51 ∷ 0x32 ∷ []) "end 1 0\n"
     ∷ prints (0x02 ∷ 0x80 ∷ []) "end 13 1\n"

@@ -16,8 +16,8 @@ use Rattle.spec.specs.declared.Next.the-variants as Next
 use Rattle.spec.specs.declared.Step.{Step}
 use Rattle.spec.specs.declared.Step.the-variants as Step
 use Rattle.spec.specs.Basics.{if, fuelled, part}
-use Rattle.spec.specs.Answers.{ok, badVarint, feedCut, answer, checked}
-use Rattle.spec.specs.Sizes.{sizeOf, fault}
+use Rattle.spec.specs.Answers.{ok, badVarint, feedCut, answerAt, answer, checked}
+use Rattle.spec.specs.Sizes.{blocksIn, sizeOf, fault}
 use Rattle.spec.specs.Boards.{Board, Left, left, exact, read, inTurn}
 
 -- a number is not "above 16,777,215"
@@ -63,7 +63,7 @@ pub record Placed : Type 0 where
 abbrev pub placed : List ℕ → ℕ → ℕ → ℕ → Placed
 placed s at first past = record { numberAt = at; first = first; past = past; bytes = between s first past }
 
--- The chunks from a place on, and the walk's own answer at their end
+-- The chunks from a place on, and the walk's own answer at their end, which does not know the blocks yet
 pub record Chunks : Type 0 where
   pub list : List Placed
   pub ending : Answer
@@ -121,12 +121,16 @@ pub record Reply : Type 0 where
 abbrev pub reply : List Answer → Answer → Reply
 reply inside a = record { inside = inside; accepted = numberAccepted inside; answer = a }
 
+-- the walk's own answer at a size: with 0 it has the number of blocks, with 12 and 13 block 0
+abbrev pub ended : Size → Answer → Answer
+ended z a = answerAt (a .number) (a .place) (if (eqb (a .number) ok) (blocksIn z) 0)
+
 -- "The walk reads each chunk in turn over what the one before it left, just as that chunk is read by itself. A refused chunk doesn't end
 -- the walk; 1, 12 and 13 do". One that ends in 12 or 13 "leaves what the chunks accepted before it made"
 abbrev pub readAll : Size → Chunks → Board → Left Reply
 readAll z cs b =
     let ran = inTurn (read z) (map (λ c. c .bytes) (cs .list)) b in
-    left (reply (ran .said) (cs .ending)) (ran .board)
+    left (reply (ran .said) (ended z (cs .ending))) (ran .board)
 
 -- "Size is checked after both numbers are read, then the lent buffers (2, which also ends the walk)"
 abbrev pub walkChunks : Size → Chunks → Board → Left Reply
@@ -152,7 +156,7 @@ tally r = record { answer = r .answer; accepted = r .accepted }
 
 -- One step of it, from a place on: the chunk that stands there is read, and the place after it; or nothing is left to read
 abbrev pub stepBy : Size → List ℕ → Next → Board → Left Step
-stepBy z s (Next.End a) b = left (Step.End a) b
+stepBy z s (Next.End a) b = left (Step.End (ended z a)) b
 stepBy z s (Next.Chunk first past) b =
     let l = read z (between s first past) b in
     left (Step.Chunk (l .said) past) (l .board)

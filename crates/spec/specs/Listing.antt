@@ -68,9 +68,9 @@ endLine a = ascii "end" ++ spaced (a .number ∷ a .place ∷ [])
 abbrev pub tooLargeLine : List ℕ
 tooLargeLine = ascii "too large\n"
 
--- "(chunk, number, place, unsettled)"
+-- "(chunk, number, place, unsettled)", and the block
 abbrev pub chunkLine : ℕ → Answer → ℕ → List ℕ
-chunkLine i a n = decimal i (spaced (a .number ∷ a .place ∷ n ∷ []))
+chunkLine i a n = decimal i (spaced (a .number ∷ a .place ∷ n ∷ a .block ∷ []))
 
 -- the line of one step of the walk, which has left a map: of the chunk that it has read, with the count as it now stands (`countMap`, which
 -- is "how many entries are not 65,535" where the map is a board's), or the end line

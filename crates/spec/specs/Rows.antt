@@ -10,7 +10,7 @@ use Rattle.spec.specs.declared.Size.{Size}
 use Rattle.spec.specs.declared.Varint.{Varint}
 use Rattle.spec.specs.declared.Varint.the-variants.{Bad, Value}
 use Rattle.spec.specs.Basics.{if, fuelled, sameBy, same}
-use Rattle.spec.specs.Answers.{answer, checked}
+use Rattle.spec.specs.Answers.{answerAt, answer, checked}
 use Rattle.spec.specs.Sizes.{blocks}
 use Rattle.spec.specs.Sizes as Sizes
 use Rattle.spec.specs.Pictures.{Origin, given, held}
@@ -65,7 +65,7 @@ abbrev pub of : ℕ → ℕ → List ℕ
 of n c = replicate n c
 
 abbrev pub sameAnswer : Answer → Answer → Bool
-sameAnswer x y = eqb (x .number) (y .number) && eqb (x .place) (y .place)
+sameAnswer x y = eqb (x .number) (y .number) && eqb (x .place) (y .place) && eqb (x .block) (y .block)
 
 abbrev pub sameReply : Reply → Reply → Bool
 sameReply x y = sameBy sameAnswer (x .inside) (y .inside) && eqb (x .accepted) (y .accepted) && sameAnswer (x .answer) (y .answer)
@@ -98,7 +98,7 @@ placesOf [] = []
 placesOf (c ∷ cs) = c .numberAt ∷ c .first ∷ c .past ∷ placesOf cs
 
 unfoldable pub holds : Row → Bool
-unfolding if fuelled checked Sizes.side Sizes.fault Pictures.place Pictures.blockOf Pictures.pixelOf Pictures.shown Pictures.paint
+unfolding if fuelled checked Sizes.side Sizes.blocksIn Sizes.fault Pictures.place Pictures.blockOf Pictures.pixelOf Pictures.shown Pictures.paint
     remap freshMap countMap Flags.digits Flags.upper24 Flags.lower24 Flags.flags Flags.octetBytes Flags.flagBytes
     Chunks.put Chunks.missing Chunks.body Chunks.countAt Chunks.bodyAt Chunks.opcode Chunks.blocksBy Chunks.extend Chunks.stored Chunks.step Chunks.finish Chunks.loop Chunks.decode
     read inTurn Writing.insert Writing.colours Writing.entries Writing.entryOf Writing.tabled Writing.single Writing.counting Writing.plain
@@ -121,8 +121,8 @@ holds (writes w h old new s) =
     let z = size w h in
     let n = length s in
     same (chunkFor z old new) s
-    && isWrote (write z old new (of n 9)) (answer 0 n) s
-    && isWrote (write z old new (of (n + 1) 9)) (answer 0 n) (s ++ 9 ∷ [])
+    && isWrote (write z old new (of n 9)) (answerAt 0 n (blocks z)) s
+    && isWrote (write z old new (of (n + 1) 9)) (answerAt 0 n (blocks z)) (s ++ 9 ∷ [])
     && isWrote (write z old new (of (n - 1) 9)) (answer 14 0) (of (n - 1) 9)
 holds (encodes os s) = same (opcodes 0 os) s
 holds (varint s v p) = isVarint (varintAt s 0) v p

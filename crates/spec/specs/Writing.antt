@@ -8,7 +8,7 @@ use lib.ListN.{length, getD, drop, replicate}
 use Rattle.spec.specs.declared.Answer.{Answer}
 use Rattle.spec.specs.declared.Size.{Size}
 use Rattle.spec.specs.Basics.{if, from, same}
-use Rattle.spec.specs.Answers.{ok, outputShort, answer, checked}
+use Rattle.spec.specs.Answers.{ok, outputShort, answerAt, answer, checked}
 use Rattle.spec.specs.Sizes.{pixels, columns, blocks, fault}
 use Rattle.spec.specs.Pictures.{Origin, given, held, blockAt}
 use Rattle.spec.specs.Flags.{digits, flagBytes}
@@ -124,11 +124,11 @@ wrote a out = record { answer = a; output = out }
 abbrev pub onto : List ℕ → List ℕ → List ℕ
 onto bs out = bs ++ drop (length bs) out
 
--- "14 exactly when the output is shorter than the chunk". "For the writer's 0 the place is the length written"
-unfoldable pub emit : List ℕ → List ℕ → Wrote
-emit bytes out = if (ltb (length out) (length bytes)) (wrote (answer outputShort 0) out) (wrote (answer ok (length bytes)) (onto bytes out))
+-- "14 exactly when the output is shorter than the chunk". "For the writer's 0 the place is the length written". Here n is the number of blocks
+unfoldable pub emit : ℕ → List ℕ → List ℕ → Wrote
+emit n bytes out = if (ltb (length out) (length bytes)) (wrote (answer outputShort 0) out) (wrote (answerAt ok (length bytes) n) (onto bytes out))
 
 -- "Order of refusals: 1, 2 (either picture), then 14"
 unfoldable pub write : Size → List ℕ → List ℕ → List ℕ → Wrote
 write z old new out =
-    checked (fault z (eqb (length old) (pixels z) && eqb (length new) (pixels z))) (λ a. wrote a out) (emit (chunkFor z old new) out)
+    checked (fault z (eqb (length old) (pixels z) && eqb (length new) (pixels z))) (λ a. wrote a out) (emit (blocks z) (chunkFor z old new) out)

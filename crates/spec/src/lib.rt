@@ -1,10 +1,11 @@
 // The types that every function of the project answers with and is lent. What they mean is defined in specs/.
 
-// What a call answers: a number of paper 01's table, and a place.
+// What a call answers: a number of paper 01's table, a place, and the block at which it stopped.
 #[repr(C)]
 pub struct Answer {
     pub number: u8,
     pub place: usize,
+    pub block: usize,
 }
 
 // Paper 01, "Numbered outcomes", and the numbers of later requests. specs/Answers.antt has the same names for the definitions.

@@ -44,11 +44,16 @@ pub fn paint_symbol(
         return Answer {
             number: fault,
             place: 0,
+            block: 0,
         };
     }
     let number = check::check(file, frame);
     if number == Answer::OK {
         paint::paint(size, file, frame, left, top, picture);
     }
-    Answer { number, place: 0 }
+    Answer {
+        number,
+        place: 0,
+        block: 0,
+    }
 }

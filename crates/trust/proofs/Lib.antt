@@ -2,5 +2,6 @@ pub mod Meanings
 pub mod Refusals
 pub mod Demand3
 pub mod Runs
+pub mod Stops
 pub mod Turns
 pub mod RoundTrip

@@ -13,7 +13,7 @@ use Rattle.spec.specs.Pictures.{Origin, Covers}
 use Rattle.spec.specs.Maps.{compose, unchanged}
 use Rattle.spec.specs.Chunks.{Outcome, refused, accepted, decode, verdict}
 use Rattle.spec.specs.Boards.{Board, board, Left, left, Exact, exact, paintBoard, effect, read, inTurn}
-use Rattle.spec.specs.Feeds.{Chunks, Feed, broken, sized, feedOf, reply, readAll, walkChunks, walk, chunksOf, walkRun}
+use Rattle.spec.specs.Feeds.{Chunks, Feed, broken, sized, feedOf, reply, ended, readAll, walkChunks, walk, chunksOf, walkRun}
 use Rattle.spec.specs.Calls.{Call, reading, walking, walkingRun, call, run}
 use Rattle.spec.proofs.Lists.{every-all, every-weaken}
 use Rattle.spec.proofs.Limits.{allowed-size, area}
@@ -95,10 +95,10 @@ module _ (z : Size) (fine : allowed z ≡ true) where
       let m = inTurn-means (read z) (every-all (map (λ c. c .bytes) (cs .list)) read-means) in
       let is : (b : Board) → Exact z b → walkChunks z cs b ≡ readAll z cs b = λ b x. rw (no-fault z fine b x) in
       record {
-        said = reply (m .said) (cs .ending);
+        said = reply (m .said) (ended z (cs .ending));
         origins = m .origins;
         covers = m .covers;
-        says = λ b x. ap (λ l. l .said) (is b x) ∙ ap (λ a. reply a (cs .ending)) (m .says b x);
+        says = λ b x. ap (λ l. l .said) (is b x) ∙ ap (λ a. reply a (ended z (cs .ending))) (m .says b x);
         leaves = λ b x. ap (λ l. l .board) (is b x) ∙ m .leaves b x;
       }
 
@@ -139,8 +139,8 @@ module _ (z : Size) (fine : allowed z ≡ true) where
       sizedBy : (y : Size) (cs : Chunks) → feedOf s ≡ sized y cs → (n : ℕ) → fault y (eqb (pixels z) (pixels y) && eqb (blocks z) (blocks y)) ≡ n → Means z (walk s)
       sizedBy y cs e zero f =
           let is : (b : Board) → Exact z b → walk s b ≡ readAll y cs b = λ b x. rw (e, exact-as y b x, f) in
-          nothing (walk s) (reply [] (cs .ending))
-          (λ b x. is b x ∙ none-said y (map (λ c. c .bytes) (cs .list)) (cs .ending) b (ap (λ l. l .said .inside) (sym (is b x)) ∙ h b x))
+          nothing (walk s) (reply [] (ended y (cs .ending)))
+          (λ b x. is b x ∙ none-said y (map (λ c. c .bytes) (cs .list)) (ended y (cs .ending)) b (ap (λ l. l .said .inside) (sym (is b x)) ∙ h b x))
       sizedBy y cs e (suc n) f = nothing (walk s) (reply [] (answer (suc n) 0)) (λ b x. rw (e, exact-as y b x, f))
 
       by : (o : Feed) → feedOf s ≡ o → Means z (walk s)

@@ -8,7 +8,7 @@ use lib.ListN.{length, drop, length-append, length-map}
 use borrow.Author.Tests.{le-ltb, eq-eqb}
 use Rattle.spec.specs.declared.Size.{Size}
 use Rattle.spec.specs.Basics.{if, from, same, part}
-use Rattle.spec.specs.Answers.{ok, answer}
+use Rattle.spec.specs.Answers.{ok, answerAt}
 use Rattle.spec.specs.Sizes.{allowed, pixels, columns, lines, blocks}
 use Rattle.spec.specs.Pictures.{Origin, given, held, shown, blockAt, paint}
 use Rattle.spec.specs.Maps.{entry, remap}
@@ -79,7 +79,7 @@ module _ (n : ℕ) (s : List ℕ) where
       let more : length (st .made ++ os) ≡ suc k + m = length-append (st .made) os ∙ simp (length-map, length-from) (omega arith) in
       let e′ : s ≡ (pre ++ bytes) ++ opcodes m xs = e ∙ sym (append-assoc pre bytes (opcodes m xs)) in
       unroll n s (length s) st (omega arith) (omega arith) (omega arith)
-      ∙ ap (resume (λ st″. loop (length s) n s st″) (st .at)) (t .steps)
+      ∙ ap (resume (λ st″. loop (length s) n s st″) st) (t .steps)
       ∙ reads-on xs m (suc k) (pre ++ bytes) st′ (writable-rest w) e′ (length-append pre bytes) room more (omega arith)
       ∙ ap accepted (append-assoc (st .made) os (drop m xs) ∙ ap (λ (l : List Origin). st .made ++ l) (rw k′ (run-origins x (maxRun - 1) xs k w)))
 
@@ -139,6 +139,6 @@ reads-back z fine old new m eo en em =
     record {
       reads = read-exact z fine (encode os) (board old m) (record { picture = eo; map = em })
           ∙ ap (λ o. left (verdict (encode os) o) (effect z o (board old m))) decoded
-          ∙ (λ i. left (answer ok (length (encode os))) (board (pic i) (map i)));
+          ∙ (λ i. left (answerAt ok (length (encode os)) (n i)) (board (pic i) (map i)));
       short = rw n at (encode-most os w);
     }

@@ -14,10 +14,10 @@ use Rattle.spec.specs.declared.Size.{Size}
 use Rattle.spec.specs.declared.SizeNumbers.{SizeNumbers}
 use Rattle.spec.specs.declared.SizeNumbers.the-variants.{Broken, Sized}
 use Rattle.spec.specs.Basics.{if, Every, none, also}
-use Rattle.spec.specs.Answers.{ok, badSize, badLength, answer}
+use Rattle.spec.specs.Answers.{ok, badSize, badLength, answerAt, answer}
 use Rattle.spec.specs.Sizes.{allowed, fault}
 use Rattle.spec.specs.Boards.{Board, Left, left, exact, read, inTurn}
-use Rattle.spec.specs.Feeds.{sizeNumbers, withChunks, feedOf, Chunks, chunksFrom, numberAccepted, Reply, reply, readAll, walkChunks, walkFeed, walk, chunksOf, walkRun}
+use Rattle.spec.specs.Feeds.{sizeNumbers, withChunks, feedOf, Chunks, chunksFrom, numberAccepted, Reply, reply, ended, readAll, walkChunks, walkFeed, walk, chunksOf, walkRun}
 use Rattle.spec.proofs.Lists.{by-number, checked-along, checked-refused}
 use Rattle.spec.proofs.Varints.{badly, short, cut-refused, numbered}
 use Rattle.spec.proofs.Feeds.{Ends, whole, cut, ends-chunks}
@@ -73,16 +73,16 @@ handed-singly z s b =
 
 -- chunks with places from elsewhere are read just so
 reads-later : (z : Size) (p : ℕ) (cs : Chunks) (b : Board)
-    → readAll z (laterChunks p cs) b ≡ left (reply (readAll z cs b .said .inside) (laterChunks p cs .ending)) (readAll z cs b .board)
+    → readAll z (laterChunks p cs) b ≡ left (reply (readAll z cs b .said .inside) (ended z (laterChunks p cs .ending))) (readAll z cs b .board)
 reads-later z p cs b =
-    ap (λ ss. let ran = inTurn (read z) ss b in left (reply (ran .said) (laterChunks p cs .ending)) (ran .board)) (map-map _ _ (cs .list))
+    ap (λ ss. let ran = inTurn (read z) ss b in left (reply (ran .said) (ended z (laterChunks p cs .ending))) (ran .board)) (map-map _ _ (cs .list))
 
 -- 0, 12 and 13 are told by the feed's first byte; 1 and 2 are not
-behind-ending : (p n at : ℕ) → Ends n → behind p (answer n at) ≡ answer n (p + at)
+behind-ending : (p n at k : ℕ) → Ends n → behind p (answerAt n at k) ≡ answerAt n (p + at) k
 unfolding if
-behind-ending p n at whole = refl
-behind-ending p n at (cut badly) = refl
-behind-ending p n at (cut short) = refl
+behind-ending p n at k whole = refl
+behind-ending p n at k (cut badly) = refl
+behind-ending p n at k (cut short) = refl
 
 behind-fault : (p : ℕ) (z : Size) (t : Bool) → fault z t ≢ ok → behind p (answer (fault z t) 0) ≡ answer (fault z t) 0
 unfolding fault if
@@ -97,7 +97,7 @@ pub size-then-run : SizeThenRun
 unfolding walk walkRun feedOf
 size-then-run s z p e b =
     let run = drop p s in
-    let own = chunksOf run .ending in
+    let own = ended z (chunksOf run .ending) in
     let ran = readAll z (chunksOf run) b in
     ap (λ x. walkFeed (withChunks s x) b) e
     ∙ ap (λ cs. walkChunks z cs b) (chunks-behind s p (numbered s e))
@@ -105,7 +105,7 @@ size-then-run s z p e b =
     (λ wrong. ap (λ a. left (reply [] a) b) (sym (behind-fault p z (exact z b) wrong)))
     (λ fine.
     reads-later z p (chunksOf run) b
-    ∙ ap (λ a. left (reply (ran .said .inside) a) (ran .board)) (sym (behind-ending p (own .number) (own .place) (ends-chunks (length run) run 0))))
+    ∙ ap (λ a. left (reply (ran .said .inside) a) (ran .board)) (sym (behind-ending p (own .number) (own .place) (own .block) (ends-chunks (length run) run 0))))
 
 chunks-used : (z : Size) (s : List ℕ) (at : ℕ) (b : Board) → at ≤ length s → AtEnd s (walkChunks z (chunksFrom (length s) s at) b .said .answer)
 chunks-used z s at b within =
@@ -116,5 +116,5 @@ unfolding walk walkRun feedOf
 used-all z s b = record { run = chunks-used z s 0 b (omega arith); feed = by (sizeNumbers s) refl }
   where
     by : (x : SizeNumbers) → sizeNumbers s ≡ x → AtEnd s (walkFeed (withChunks s x) b .said .answer)
-    by (Broken a) e = λ h. absurd (cut-refused (numbered s e) h)
+    by (Broken a) e = λ h. absurd (cut-refused (numbered s e .0) h)
     by (Sized y p) e = chunks-used y s p b (numbered s e)

@@ -47,7 +47,7 @@ entryAt z calls p k = getD (ran z calls p .board .map) k 0
 
 -- the claim for one sequence and two starting boards
 pub record Alike (z : Size) (calls : List Call) (p q : Board) : Type 0 where
-  -- equal answers, those of the chunks inside a walk and the number accepted among them, equal maps, and equal counts
+  -- equal answers, their blocks, those of the chunks inside a walk and the number accepted among them, equal maps, and equal counts
   pub answers : ran z calls p .said ≡ ran z calls q .said
   pub maps : ran z calls p .board .map ≡ ran z calls q .board .map
   pub counts : countMap z (ran z calls p .board .map) ≡ countMap z (ran z calls q .board .map)

@@ -1,4 +1,5 @@
 pub mod Means
 pub mod Demand
 pub mod Runs
+pub mod Stops
 pub mod RoundTrip

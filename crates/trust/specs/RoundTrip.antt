@@ -1,11 +1,11 @@
 -- The round trip: what the writer wrote, read over the old picture, gives the new one. Assumes nothing.
-use Prim.Native.Nat.{ℕ, _+_, _*_, _≤_}
+use Prim.Native.Nat.{ℕ, _≤_}
 use mathlib.Core.Path.{_≡_}
 use mathlib.Core.List.{List, map}
 use lib.ListN.{length, getD}
 use Rattle.spec.specs.declared.Size.{Size}
 use Rattle.spec.specs.Basics.{if, from, same}
-use Rattle.spec.specs.Answers.{ok, answer}
+use Rattle.spec.specs.Answers.{ok, answerAt}
 use Rattle.spec.specs.Sizes.{columns, blocks}
 use Rattle.spec.specs.Pictures.{blockAt}
 use Rattle.spec.specs.Maps.{settled}
@@ -18,5 +18,5 @@ marked z old new m = map (λ k. if (same (blockAt (columns z) old k) (blockAt (c
 
 -- reading what was written over the old picture, with every lent map: accepted whole, and the new picture is there; and how long it can be
 pub record ReadsBack (z : Size) (old new m : List ℕ) : Type 0 where
-  pub reads : read z (chunkFor z old new) (board old m) ≡ left (answer ok (length (chunkFor z old new))) (board new (marked z old new m))
+  pub reads : read z (chunkFor z old new) (board old m) ≡ left (answerAt ok (length (chunkFor z old new)) (blocks z)) (board new (marked z old new m))
   pub short : length (chunkFor z old new) ≤ maxLength (blocks z)

@@ -10,10 +10,10 @@ use Rattle.spec.specs.declared.Answer.{Answer}
 use Rattle.spec.specs.declared.Size.{Size}
 use Rattle.spec.specs.declared.SizeNumbers.the-variants.{Sized}
 use Rattle.spec.specs.Basics.{if, Every}
-use Rattle.spec.specs.Answers.{ok, badSize, badLength, answer}
+use Rattle.spec.specs.Answers.{ok, badSize, badLength, answerAt}
 use Rattle.spec.specs.Sizes.{fault}
 use Rattle.spec.specs.Boards.{Board, Left, left, exact, read, inTurn}
-use Rattle.spec.specs.Feeds.{sizeNumbers, numberAccepted, Reply, reply, chunksOf, walk, walkRun}
+use Rattle.spec.specs.Feeds.{sizeNumbers, numberAccepted, Reply, reply, ended, chunksOf, walk, walkRun}
 
 -- the chunks of a run handed over one by one: what each reading answers, and the board at the end
 abbrev pub singly : Size → List ℕ → Board → Left (List Answer)
@@ -25,8 +25,8 @@ pub record Singly (z : Size) (s : List ℕ) (b : Board) : Type 0 where
   pub boards : walkRun z s b .board ≡ singly z s b .board
   -- the number accepted is how many of the readings answer 0
   pub accepted : walkRun z s b .said .accepted ≡ numberAccepted (singly z s b .said)
-  -- the same answers, and then the run's own, which its bytes alone decide
-  pub answers : fault z (exact z b) ≡ ok → walkRun z s b .said ≡ reply (singly z s b .said) (chunksOf s .ending)
+  -- the same answers, and then the run's own, which its bytes and the size decide
+  pub answers : fault z (exact z b) ≡ ok → walkRun z s b .said ≡ reply (singly z s b .said) (ended z (chunksOf s .ending))
   -- where the run gets 1 or 2, so does each of the readings
   pub refusals : fault z (exact z b) ≢ ok → Every (λ a. a ≡ walkRun z s b .said .answer) (singly z s b .said)
 
@@ -37,7 +37,7 @@ HandedSingly = (z : Size) (s : List ℕ) (b : Board) → Singly z s b
 -- 0, 12 and 13, at the first byte of the feed, or of a run lent without size numbers". 1 and 2 have place 0 in both
 abbrev pub behind : ℕ → Answer → Answer
 behind p a =
-    let further = answer (a .number) (p + a .place) in
+    let further = answerAt (a .number) (p + a .place) (a .block) in
     if (eqb (a .number) badSize) a (if (eqb (a .number) badLength) a further)
 
 -- a walk that has come by its size in p bytes, and goes on as a run

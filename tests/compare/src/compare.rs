@@ -6,7 +6,7 @@ use std::hint::black_box;
 
 use seatboard::exact::{self, Answer, Count, Tally};
 use seatboard::Size;
-use second::reader::{self, pixel_blocks, Refusal, Step};
+use second::reader::{self, pixel_blocks, At, Refusal, Step};
 use second::sprite::{self, Frame};
 use second::walk::{self, ChunkRead, Walk};
 use second::writer::{self, Chunk};
@@ -60,17 +60,20 @@ fn perhaps_changed<T>(lent: &mut [T]) {
 }
 
 pub const SECOND: Codec = Codec {
-    fresh_map: |size, map| answer(&reader::fresh_map(size.width, size.height, map), 0),
+    fresh_map: |size, map| {
+        let made = reader::fresh_map(size.width, size.height, map);
+        answer(&made, At::NOWHERE)
+    },
     count: |size, map| {
         let counted = reader::count(size.width, size.height, map);
         Count {
-            answer: answer(&counted, 0),
+            answer: answer(&counted, At::NOWHERE),
             unsettled: counted.unwrap_or(0),
         }
     },
     read_chunk: |size, chunk, picture, map| {
         let reading = reader::read_chunk((size.width, size.height), chunk, picture, map);
-        answer(&reading, chunk.len())
+        answer(&reading, At::end(chunk.len(), map))
     },
     walk_feed: |feed, picture, map| walk_answer(&walk::walk(feed, picture, map)),
     walk_run: |size, run, picture, map| {
@@ -90,18 +93,20 @@ pub const SECOND: Codec = Codec {
     },
 };
 
-/// 01: an accepted chunk's place is the length used; for fresh maps and counts it is 0.
-fn answer<T>(reading: &Result<T, Refusal>, accepted_place: usize) -> Answer {
-    let (number, place) = match reading {
-        Ok(_) => (0, accepted_place),
-        Err(refusal) => refusal.number_and_place(),
-    };
-    Answer { number, place }
+fn answer<T>(reading: &Result<T, Refusal>, accepted: At) -> Answer {
+    answered(reader::number_and_at(reading, accepted))
 }
 
 fn walk_answer(walk: &Walk) -> Answer {
-    let (number, place) = walk.number_and_place();
-    Answer { number, place }
+    answered(walk.number_and_at())
+}
+
+fn answered((number, At { place, block }): (u8, At)) -> Answer {
+    Answer {
+        number,
+        place,
+        block,
+    }
 }
 
 fn run_tally(walk: &Walk) -> Tally {
@@ -111,10 +116,8 @@ fn run_tally(walk: &Walk) -> Tally {
     }
 }
 
-/// 01: for the writer's 0 the place is the length written.
 fn write_answer(written: &Result<Chunk, Refusal>) -> Answer {
-    let length = written.as_ref().map_or(0, |chunk| chunk.bytes.len());
-    answer(written, length)
+    answer(written, written.as_ref().map_or(At::NOWHERE, Chunk::end))
 }
 
 fn second_painting(
@@ -127,10 +130,11 @@ fn second_painting(
     sprite::paint_symbol(size, picture, file, frame, (left, top))
 }
 
-/// 01: a number added later returns place 0, and so does 0 from an operation added later.
+/// 01: a number added later returns place 0, and so does 0 from an operation added later. 02: it
+/// reads and writes no chunk, so that there is no block either.
 fn symbol_answer(painted: &Result<Frame, sprite::Refusal>) -> Answer {
     let number = painted.as_ref().err().map_or(0, |refusal| refusal.number());
-    Answer { number, place: 0 }
+    answered((number, At::NOWHERE))
 }
 
 /// What a call answered, and what it left in the buffers lent to it.
@@ -291,7 +295,7 @@ pub fn read_chunk(Case { board, chunk }: &Case) -> Comparison {
     let mut steps = Vec::new();
     let theirs = Outcome::of(board, |picture, map| {
         let reading = reader::read_chunk((size.width, size.height), chunk, picture, map);
-        let answer = answer(&reading, chunk.len());
+        let answer = answer(&reading, At::end(chunk.len(), map));
         steps = reading.unwrap_or_default();
         answer
     });
@@ -432,9 +436,10 @@ fn read_back(case: &WriteCase, chunk: &[u8]) -> Vec<String> {
         picture: case.new.clone(),
         map,
     };
-    let expected = Outcome::of(&read, |_, _| Answer {
+    let expected = Outcome::of(&read, |_, map| Answer {
         number: 0,
         place: chunk.len(),
+        block: map.len(),
     });
     let back = |codec: Codec, name| {
         let found = Outcome::of(&case.board, |picture, map| {

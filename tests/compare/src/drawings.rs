@@ -3,11 +3,10 @@
 
 use std::fs;
 
-use seatboard::exact::Answer;
 use seatboard::Size;
 
 use crate::compare::{Codec, Painting};
-use crate::examples::{lent_picture, without};
+use crate::examples::{lent_picture, number_alone, without};
 use crate::symbols::{Placed, SymbolCase};
 
 const FOLDER: &str = concat!(env!("CARGO_MANIFEST_DIR"), "/../../examples/symbols");
@@ -122,7 +121,7 @@ fn compare(
     let found = Painting::of(lent, |picture, file| {
         (codec.paint_symbol)(SIZE, picture, file, placed)
     });
-    let expected = Painting::of(left_behind, |_, _| Answer { number, place: 0 });
+    let expected = Painting::of(left_behind, |_, _| number_alone(number));
     without(found.differences(&expected, ["it has", "drawn"]), || {
         format!("{name}, {placed:?}")
     })

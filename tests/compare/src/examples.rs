@@ -8,11 +8,27 @@ use seatboard::Size;
 use crate::compare::{Codec, Outcome};
 use crate::generate::{Board, SETTLED};
 
+/// Number, place and block.
+pub type Said = (u8, usize, usize);
+
+pub fn answer((number, place, block): Said) -> Answer {
+    Answer {
+        number,
+        place,
+        block,
+    }
+}
+
+/// Of what has neither place nor block.
+pub fn number_alone(number: u8) -> Answer {
+    answer((number, 0, 0))
+}
+
 struct Example {
     number: usize,
     size: (usize, usize),
     chunk: &'static [u8],
-    answer: (u8, usize),
+    says: Said,
     /// What an accepted chunk leaves; a refused one leaves what was lent.
     leaves: Option<(Vec<u8>, Vec<u16>)>,
 }
@@ -29,22 +45,17 @@ fn accepted(
         number,
         size,
         chunk,
-        answer: (0, chunk.len()),
+        says: (0, chunk.len(), map.len()),
         leaves,
     }
 }
 
-fn refused(
-    number: usize,
-    size: (usize, usize),
-    chunk: &'static [u8],
-    answer: (u8, usize),
-) -> Example {
+fn refused(number: usize, size: (usize, usize), chunk: &'static [u8], says: Said) -> Example {
     Example {
         number,
         size,
         chunk,
-        answer,
+        says,
         leaves: None,
     }
 }
@@ -85,19 +96,19 @@ fn accepted_examples() -> Vec<Example> {
 fn refused_examples() -> Vec<Example> {
     let fill = &[0xE1, 0, 0, 6, 0x60, 5];
     vec![
-        refused(3, (4, 4), &[0xE1, 0, 0, 5, 0x20], (8, 4)),
-        refused(4, (4, 4), &[0xE1, 0, 0, 5, 0x01], (9, 4)),
-        refused(5, (4, 4), &[0xE1, 0, 0, 6, 0x90, 0], (10, 4)),
-        refused(7, (4, 4), &[0xE1, 0, 0, 6, 0x00, 0xAA], (11, 5)),
-        refused(8, (4, 4), &[0xE1, 0, 0, 4], (5, 4)),
-        refused(9, (4, 4), &[0xE1, 0, 0, 5, 0x10], (6, 4)),
-        refused(10, (4, 4), &[0xE1, 0, 0, 5, 0xF0], (7, 4)),
-        refused(12, (4, 4), &[], (3, 0)),
-        refused(12, (4, 4), &[0xE1, 0, 0, 7, 0x60, 5], (4, 0)),
-        refused(12, (324, 4), fill, (1, 0)),
-        refused(12, (4, 204), fill, (1, 0)),
-        refused(12, (6, 4), fill, (1, 0)),
-        refused(12, (0, 4), fill, (1, 0)),
+        refused(3, (4, 4), &[0xE1, 0, 0, 5, 0x20], (8, 4, 0)),
+        refused(4, (4, 4), &[0xE1, 0, 0, 5, 0x01], (9, 4, 0)),
+        refused(5, (4, 4), &[0xE1, 0, 0, 6, 0x90, 0], (10, 4, 0)),
+        refused(7, (4, 4), &[0xE1, 0, 0, 6, 0x00, 0xAA], (11, 5, 1)),
+        refused(8, (4, 4), &[0xE1, 0, 0, 4], (5, 4, 0)),
+        refused(9, (4, 4), &[0xE1, 0, 0, 5, 0x10], (6, 4, 0)),
+        refused(10, (4, 4), &[0xE1, 0, 0, 5, 0xF0], (7, 4, 0)),
+        refused(12, (4, 4), &[], (3, 0, 0)),
+        refused(12, (4, 4), &[0xE1, 0, 0, 7, 0x60, 5], (4, 0, 0)),
+        refused(12, (324, 4), fill, (1, 0, 0)),
+        refused(12, (4, 204), fill, (1, 0, 0)),
+        refused(12, (6, 4), fill, (1, 0, 0)),
+        refused(12, (0, 4), fill, (1, 0, 0)),
     ]
 }
 
@@ -143,15 +154,17 @@ pub fn left_board(lent: &Board, leaves: &Option<(Vec<u8>, Vec<u16>)>) -> Board {
 
 fn check_chunk(codec: &Codec, example: &Example) -> Result<(), String> {
     let (width, height) = example.size;
-    let size = Size { width, height };
-    let lent = lent_board(size);
+    let lent = lent_board(Size { width, height });
     let left = left_board(&lent, &example.leaves);
-    let (number, place) = example.answer;
-    let found = Outcome::of(&lent, |picture, map| {
-        (codec.read_chunk)(size, example.chunk, picture, map)
-    });
-    let expected = Outcome::of(&left, |_, _| Answer { number, place });
+    let found = read_over(&lent, codec, example.chunk);
+    let expected = Outcome::of(&left, |_, _| answer(example.says));
     equal(&found, &expected, || format!("example {}", example.number))
+}
+
+pub fn read_over(board: &Board, codec: &Codec, chunk: &[u8]) -> Outcome<Answer> {
+    Outcome::of(board, |picture, map| {
+        (codec.read_chunk)(board.size, chunk, picture, map)
+    })
 }
 
 /// A fresh map of that size and its count, each with the given number.
@@ -169,7 +182,7 @@ fn check_maps(
         map_board(size, vec![SETTLED; entries])
     };
     let found = Outcome::of(&lent, |_, map| (codec.fresh_map)(lent.size, map));
-    let expected = Outcome::of(&left, |_, _| Answer { number, place: 0 });
+    let expected = Outcome::of(&left, |_, _| number_alone(number));
     equal(&found, &expected, || format!("fresh map of {size:?}"))?;
     let unsettled = if number == 0 { entries } else { 0 };
     check_count(codec, &left, number, unsettled)
@@ -177,7 +190,7 @@ fn check_maps(
 
 fn check_count(codec: &Codec, board: &Board, number: u8, unsettled: usize) -> Result<(), String> {
     let found = Outcome::of(board, |_, map| (codec.count)(board.size, map));
-    let answer = Answer { number, place: 0 };
+    let answer = number_alone(number);
     let expected = Outcome::of(board, |_, _| Count { answer, unsettled });
     equal(&found, &expected, || format!("count of {:?}", board.size))
 }
@@ -190,7 +203,7 @@ pub fn equal<A: Debug + PartialEq>(
     without(found.differences(expected, FOUND_AND_SAID), name)
 }
 
-pub const FOUND_AND_SAID: [&str; 2] = ["it has", "01 says"];
+pub const FOUND_AND_SAID: [&str; 2] = ["it has", "should have"];
 
 pub fn without(differences: Vec<String>, name: impl FnOnce() -> String) -> Result<(), String> {
     if differences.is_empty() {

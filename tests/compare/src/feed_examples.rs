@@ -1,40 +1,43 @@
 //! Feeds made by hand, with what 01 says of them; the first is the one whose listing 01 gives.
-//! All are walked over a fresh map, and all but one over an 8x4 board.
+//! All are walked over a fresh map, and all but two over an 8x4 board.
 
-use seatboard::exact::Answer;
 use seatboard::Size;
 
 use crate::compare::{Codec, Outcome};
-use crate::examples::{equal, left_board, lent_board, lent_picture};
+use crate::examples::{answer, equal, left_board, lent_board, lent_picture, Said};
 use crate::generate::{FULL, SETTLED};
 
 const LENT: Size = Size {
     width: 8,
     height: 4,
 };
+const EIGHT: Size = Size {
+    width: 16,
+    height: 8,
+};
 
 struct Example {
     size: Size,
     feed: Vec<u8>,
-    answer: (u8, usize),
+    says: Said,
     /// What the walk leaves; none where it leaves what was lent.
     leaves: Option<(Vec<u8>, Vec<u16>)>,
 }
 
-fn unchanged(feed: &[u8], answer: (u8, usize)) -> Example {
+fn unchanged(feed: &[u8], says: Said) -> Example {
     Example {
         size: LENT,
         feed: feed.to_vec(),
-        answer,
+        says,
         leaves: None,
     }
 }
 
-fn changed(feed: &[u8], answer: (u8, usize), picture: &[u8], map: [u16; 2]) -> Example {
+fn changed(feed: &[u8], says: Said, picture: &[u8], map: [u16; 2]) -> Example {
     Example {
         size: LENT,
         feed: feed.to_vec(),
-        answer,
+        says,
         leaves: Some((picture.to_vec(), map.to_vec())),
     }
 }
@@ -52,12 +55,19 @@ pub const FIVES: [u8; 7] = [6, 0xE1, 0, 0, 6, 0x61, 5];
 /// Block 0 filled with 9, and block 0 copied to block 1, with their lengths in front.
 pub const NINE: [u8; 8] = [7, 0xE1, 0, 0, 7, 0x60, 9, 0x00];
 pub const COPIED: [u8; 7] = [6, 0xE1, 0, 0, 6, 0x00, 0x20];
+/// Refused with 5 at block 1, with its length in front.
+pub const HALF: [u8; 6] = [5, 0xE1, 0, 0, 5, 0x00];
 
 fn whole_feeds() -> Vec<Example> {
     let full = Example {
         size: FULL,
-        ..unchanged(&[80, 50], (0, 2))
+        ..unchanged(&[80, 50], (0, 2, 4_000))
     };
+    let eight = Example {
+        size: EIGHT,
+        ..unchanged(&[&[4, 2], &HALF[..]].concat(), (0, 8, 8))
+    };
+    let then_refused = [&[2, 1], &FIVES[..], &HALF].concat();
     // The second chunk sees what the first one left.
     let one_after_other = [&[2, 1], &NINE[..], &COPIED].concat();
     // A length of 300, AC 02, whose chunk states 0 and is refused.
@@ -67,16 +77,20 @@ fn whole_feeds() -> Vec<Example> {
     let upper_half = [&[5; 16], &lent_picture(32)[16..]].concat();
     let settled = [SETTLED; 2];
     vec![
-        changed(LISTING, (0, 21), &[5; 32], settled),
+        changed(LISTING, (0, 21, 2), &[5; 32], settled),
         full,
-        unchanged(&[2, 1], (0, 2)),
-        unchanged(&[2, 1, 0], (0, 3)),
-        unchanged(&[2, 1, 0, 0], (0, 4)),
+        unchanged(&[2, 1], (0, 2, 2)),
+        unchanged(&[2, 1, 0], (0, 3, 2)),
+        unchanged(&[2, 1, 0, 0], (0, 4, 2)),
         // The chunk's bytes are those of the feed's own length, whatever the chunk states.
-        unchanged(&[2, 1, 7, 0xE1, 0, 0, 6, 0x61, 5, 0], (0, 10)),
-        changed(&one_after_other, (0, 17), &[9; 32], settled),
-        changed(&three_hundred, (0, 311), &[5; 32], settled),
-        changed(&upright, (0, 10), &upper_half, [SETTLED, 1]),
+        unchanged(&[2, 1, 7, 0xE1, 0, 0, 6, 0x61, 5, 0], (0, 10, 2)),
+        changed(&one_after_other, (0, 17, 2), &[9; 32], settled),
+        changed(&three_hundred, (0, 311, 2), &[5; 32], settled),
+        changed(&upright, (0, 10, 2), &upper_half, [SETTLED, 1]),
+        // That the last chunk was refused at another block does not show.
+        unchanged(&[&[2, 1], &HALF[..]].concat(), (0, 8, 2)),
+        changed(&then_refused, (0, 15, 2), &[5; 32], settled),
+        eight,
     ]
 }
 
@@ -95,53 +109,55 @@ pub const FAILING: [(&[u8], u8); 11] = [
     (&[0xFF, 0xFF, 0xFF, 0x7F], 12),
 ];
 
-/// The same number at each of the three places, where it fails in the same way.
+/// The same number at each of the three places, where it fails in the same way, and after a chunk.
 fn failing_numbers() -> Vec<Example> {
     let all_places = |(number, fails): (&[u8], u8)| {
         let after_chunk = [&[2, 1], &FIVES[..], number].concat();
+        let after_refused = [&[2, 1], &HALF[..], number].concat();
         [
-            unchanged(number, (fails, 0)),
-            unchanged(&[&[2], number].concat(), (fails, 1)),
-            unchanged(&[&[2, 1], number].concat(), (fails, 2)),
-            changed(&after_chunk, (fails, 9), &[5; 32], [SETTLED; 2]),
+            unchanged(number, (fails, 0, 0)),
+            unchanged(&[&[2], number].concat(), (fails, 1, 0)),
+            unchanged(&[&[2, 1], number].concat(), (fails, 2, 0)),
+            changed(&after_chunk, (fails, 9, 0), &[5; 32], [SETTLED; 2]),
+            unchanged(&after_refused, (fails, 8, 0)),
         ]
     };
     let mut examples: Vec<Example> = FAILING.into_iter().flat_map(all_places).collect();
-    examples.push(unchanged(&[], (13, 0)));
-    examples.push(unchanged(&[2], (13, 1)));
+    examples.push(unchanged(&[], (13, 0, 0)));
+    examples.push(unchanged(&[2], (13, 1, 0)));
     examples
 }
 
 fn sizes_and_orders() -> Vec<Example> {
     vec![
-        unchanged(&[0, 1], (1, 0)),
-        unchanged(&[2, 0], (1, 0)),
-        unchanged(&[81, 1], (1, 0)),
-        unchanged(&[1, 51], (1, 0)),
-        unchanged(&[0xFF, 0xFF, 0xFF, 7, 1], (1, 0)),
-        unchanged(&[2, 0xFF, 0xFF, 0xFF, 7], (1, 0)),
-        unchanged(&[2, 2], (2, 0)),
-        unchanged(&[1, 1], (2, 0)),
+        unchanged(&[0, 1], (1, 0, 0)),
+        unchanged(&[2, 0], (1, 0, 0)),
+        unchanged(&[81, 1], (1, 0, 0)),
+        unchanged(&[1, 51], (1, 0, 0)),
+        unchanged(&[0xFF, 0xFF, 0xFF, 7, 1], (1, 0, 0)),
+        unchanged(&[2, 0xFF, 0xFF, 0xFF, 7], (1, 0, 0)),
+        unchanged(&[2, 2], (2, 0, 0)),
+        unchanged(&[1, 1], (2, 0, 0)),
         // Both size numbers are read before the size is checked.
-        unchanged(&[0, 0x80], (13, 1)),
-        unchanged(&[0x80, 1, 0x80], (13, 2)),
-        unchanged(&[0x80, 1, 0x80, 0], (12, 2)),
+        unchanged(&[0, 0x80], (13, 1, 0)),
+        unchanged(&[0x80, 1, 0x80], (13, 2, 0)),
+        unchanged(&[0x80, 1, 0x80, 0], (12, 2, 0)),
         // 1 and 2 end the walk before a length is looked at.
-        unchanged(&[81, 1, 0x80, 0], (1, 0)),
-        unchanged(&[2, 2, 0x80, 0], (2, 0)),
-        unchanged(&[2, 2, 9], (2, 0)),
+        unchanged(&[81, 1, 0x80, 0], (1, 0, 0)),
+        unchanged(&[2, 2, 0x80, 0], (2, 0, 0)),
+        unchanged(&[2, 2, 9], (2, 0, 0)),
     ]
 }
 
 fn cut_chunks() -> Vec<Example> {
     let after_chunk = [&[2, 1], &FIVES[..], &[6, 0xE1, 0]].concat();
     vec![
-        unchanged(&[2, 1, 5], (13, 3)),
-        unchanged(&[2, 1, 5, 0xE1, 0, 0, 5], (13, 3)),
-        unchanged(&[2, 1, 0xAC, 2, 0xE1], (13, 4)),
-        unchanged(&[2, 1, 0xFF, 0xFF, 0xFF, 7], (13, 6)),
-        unchanged(&[2, 1, 0, 5], (13, 4)),
-        changed(&after_chunk, (13, 10), &[5; 32], [SETTLED; 2]),
+        unchanged(&[2, 1, 5], (13, 3, 0)),
+        unchanged(&[2, 1, 5, 0xE1, 0, 0, 5], (13, 3, 0)),
+        unchanged(&[2, 1, 0xAC, 2, 0xE1], (13, 4, 0)),
+        unchanged(&[2, 1, 0xFF, 0xFF, 0xFF, 7], (13, 6, 0)),
+        unchanged(&[2, 1, 0, 5], (13, 4, 0)),
+        changed(&after_chunk, (13, 10, 0), &[5; 32], [SETTLED; 2]),
     ]
 }
 
@@ -161,10 +177,9 @@ pub fn check(codec: &Codec) -> Result<(), String> {
 fn check_feed(codec: &Codec, example: &Example) -> Result<(), String> {
     let lent = lent_board(example.size);
     let left = left_board(&lent, &example.leaves);
-    let (number, place) = example.answer;
     let found = Outcome::of(&lent, |picture, map| {
         (codec.walk_feed)(&example.feed, picture, map)
     });
-    let expected = Outcome::of(&left, |_, _| Answer { number, place });
+    let expected = Outcome::of(&left, |_, _| answer(example.says));
     equal(&found, &expected, || format!("feed {:02X?}", example.feed))
 }

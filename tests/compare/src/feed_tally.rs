@@ -44,7 +44,7 @@ pub struct FeedTally {
 
 impl FeedTally {
     pub fn add(&mut self, case: &FeedCase, compared: &FeedComparison) {
-        let (number, _) = compared.walk.number_and_place();
+        let (number, _) = compared.walk.number_and_at();
         self.ends.add(number);
         match compared.walk.end {
             Err(Stop::BadNumber(number, fault, _)) => {
@@ -119,7 +119,7 @@ fn at_the_end(case: &FeedCase, compared: &FeedComparison) -> [Thing; 3] {
 
 /// One number where another could be given too.
 fn orders(case: &FeedCase, compared: &FeedComparison) -> [Thing; 6] {
-    let (number, _) = compared.walk.number_and_place();
+    let (number, _) = compared.walk.number_and_at();
     let (numbers, after) = leading_numbers(&case.feed);
     let fits = buffers_fit(case, &numbers);
     let first_not_allowed = matches!(numbers[..], [across] if !(1..=80).contains(&across));
@@ -151,7 +151,7 @@ fn orders(case: &FeedCase, compared: &FeedComparison) -> [Thing; 6] {
 
 /// Which chunks the walk read, and whether they showed.
 fn chunks(case: &FeedCase, compared: &FeedComparison) -> [Thing; 7] {
-    let (number, _) = compared.walk.number_and_place();
+    let (number, _) = compared.walk.number_and_at();
     let chunks = &compared.walk.chunks;
     let rises = |two: &[ChunkRead]| two[0].unsettled < two[1].unsettled;
     let Size { width, height } = case.board.size;

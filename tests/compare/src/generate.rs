@@ -252,10 +252,11 @@ fn valid_then_wrong(random: &mut Random, blocks: usize) -> Vec<u8> {
     builder.extend_to(turn);
     let mut chunk = builder.chunk;
     let upper = random.pick(&[0x0, 0x1, 0x2, 0x3, 0x4, 0x5, 0x7, 0x9, 0xB, 0xD, 0xE, 0xF]);
-    let low = if random.one_in(2) {
-        0xF
-    } else {
-        random.byte() & 15
+    let low = match random.below(4) {
+        0 | 1 => 0xF,
+        // One block, which fits at the last one too.
+        2 => 0,
+        _ => random.byte() & 15,
     };
     chunk.push(upper << 4 | low);
     if random.one_in(3) {

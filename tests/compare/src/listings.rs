@@ -23,7 +23,7 @@ pub fn check_cases() -> Result<(), String> {
     differing.result(cases.len() as u64)
 }
 
-pub fn compare_random(seed: u64, things: &mut Things<9>) -> Result<(), String> {
+pub fn compare_random(seed: u64, things: &mut Things<10>) -> Result<(), String> {
     let mut differing = Differing::default();
     for number in 0..FEEDS {
         let feed = feeds::for_program(seed, number);
@@ -39,7 +39,7 @@ pub fn compare_random(seed: u64, things: &mut Things<9>) -> Result<(), String> {
 }
 
 /// What a listing has, so that a run which missed something says so.
-fn things_of(feed: &[u8], listing: &str) -> [Thing; 9] {
+fn things_of(feed: &[u8], listing: &str) -> [Thing; 10] {
     let length = feed.len();
     let too_large = listing == "too large\n";
     let board = listing.starts_with("board");
@@ -58,14 +58,28 @@ fn things_of(feed: &[u8], listing: &str) -> [Thing; 9] {
         ("a board ended by 12", board && ends(&["end 12 "])),
         ("a board ended by 13", board && ends(&["end 13 "])),
         ("a count that rises", count_rises(listing)),
+        (
+            "a chunk refused behind the first block",
+            refused_behind(listing),
+        ),
     ]
 }
 
 fn count_rises(listing: &str) -> bool {
-    let unsettled = |line: &str| match line.split(' ').collect::<Vec<_>>()[..] {
-        [_, _, _, unsettled] => unsettled.parse::<usize>().ok(),
-        _ => None,
-    };
-    let counts: Vec<usize> = listing.lines().filter_map(unsettled).collect();
+    let counts: Vec<usize> = rows(listing).map(|[.., unsettled, _]| unsettled).collect();
     counts.windows(2).any(|two| two[0] < two[1])
+}
+
+fn refused_behind(listing: &str) -> bool {
+    rows(listing).any(|[_, number, .., block]| (5..=10).contains(&number) && block > 0)
+}
+
+/// Chunk, number, place, unsettled and block.
+fn rows(listing: &str) -> impl Iterator<Item = [usize; 5]> + '_ {
+    let row = |line: &str| {
+        let columns = line.split(' ').map(|column| column.parse().ok());
+        let columns: Option<Vec<usize>> = columns.collect();
+        columns?.try_into().ok()
+    };
+    listing.lines().filter_map(row)
 }

@@ -7,8 +7,9 @@
 //! pictures to write, symbols.rs symbols to paint from the files of sprites.rs, right and wrong;
 //! compare.rs gives each to both and compares the answer and all that was lent; tally.rs,
 //! feed_tally.rs, run_tally.rs, write_tally.rs and symbol_tally.rs count what they had in them;
-//! examples.rs, feed_examples.rs, run_examples.rs, write_examples.rs and symbol_examples.rs try both
-//! on paper 01's examples and on others made by hand, and drawings.rs on the symbols in examples/.
+//! examples.rs, block_examples.rs, feed_examples.rs, run_examples.rs, write_examples.rs and
+//! symbol_examples.rs try both on paper 01's examples and on others made by hand, and drawings.rs on
+//! the symbols in examples/.
 //! Each chunk written is read back by both readers, and each run is also handed over chunk by chunk
 //! and behind size numbers. program.rs runs the board program, on the cases of program_cases.rs and
 //! on random feeds (listings.rs). sequences.rs makes sequences of calls, and two_boards.rs runs them.
@@ -26,6 +27,7 @@
 //! replay one chunk, feed, run, write, symbol, listing or sequence of that seed and print all of it.
 //! Each check prints `ok NAME` or `FAILED NAME: why`; the last line is `N passed, M failed`.
 
+mod block_examples;
 mod compare;
 mod drawings;
 mod examples;
@@ -132,6 +134,10 @@ fn check_reading(options: &Options, report: &mut Report) {
     report.check("second reader: half-bytes of an octet", half_bytes());
     report.check("second reader: 01's examples", examples::check(&SECOND));
     report.check("library: 01's examples", examples::check(&LIBRARY));
+    let examples = block_examples::check(&SECOND);
+    report.check("second reader: chunks stopped at a block", examples);
+    let examples = block_examples::check(&LIBRARY);
+    report.check("library: chunks stopped at a block", examples);
 
     let Options { seed, chunks, .. } = *options;
     let mut tally = Tally::default();
@@ -143,6 +149,7 @@ fn check_reading(options: &Options, report: &mut Report) {
     let compared = compare_chunks(&name, generate::long_cases(seed), &mut Tally::default());
     report.check("long chunks compared", compared);
     report.check_counts("every number", ENOUGH, tally.number_counts());
+    report.check_counts("every block", ENOUGH, tally.stop_counts());
     report.check_counts("every opcode", ENOUGH, tally.opcode_counts());
     report.check_counts("every table wrapped", ENOUGH, tally.wrap_counts());
     report.check_counts("longest runs", ENOUGH, tally.longest_run_counts());

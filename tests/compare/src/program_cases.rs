@@ -1,4 +1,4 @@
-//! Feeds for the board program, each with what 01 says it prints, written out by hand.
+//! Feeds for the board program, each with what 01 and 02 say it prints, written out by hand.
 
 use crate::feed_examples::LISTING;
 use crate::program::Handed;
@@ -31,6 +31,7 @@ pub fn all() -> Vec<ProgramCase> {
         listings(),
         accepted_chunks(),
         refused_chunks(),
+        blocks(),
         longest_feeds(),
         too_long_feeds(),
         pixel_limit(),
@@ -46,7 +47,7 @@ pub fn all() -> Vec<ProgramCase> {
 }
 
 fn listings() -> Vec<ProgramCase> {
-    let prints = "board 8 4\n1 0 6 2\n2 5 4 2\n3 0 6 0\nend 0 21\n";
+    let prints = "board 8 4\n1 0 6 2 2\n2 5 4 2 0\n3 0 6 0 2\nend 0 21\n";
     let slowly = case("01's listing, byte by byte", LISTING, prints);
     vec![
         case("01's listing", LISTING, prints),
@@ -69,7 +70,7 @@ fn accepted_chunks() -> Vec<ProgramCase> {
                 7, 0xE1, 0, 0, 7, 0x60, 5, 0x00,
                 5, 0xE1, 0, 0, 5, 0x01,
             ],
-            "board 8 4\n1 0 7 1\n2 0 6 2\n3 0 7 1\n4 0 5 1\nend 0 31\n",
+            "board 8 4\n1 0 7 1 2\n2 0 6 2 2\n3 0 7 1 2\n4 0 5 1 2\nend 0 31\n",
         ),
         case(
             "colours stored by one chunk, named by the next",
@@ -78,7 +79,7 @@ fn accepted_chunks() -> Vec<ProgramCase> {
                 9, 0xE1, 0, 0, 9, 0x80, 3, 7, 0, 8,
                 8, 0xE1, 0, 0, 8, 0x90, 0, 0, 8,
             ],
-            "board 4 4\n1 0 9 0\n2 10 4 0\nend 0 21\n",
+            "board 4 4\n1 0 9 0 1\n2 10 4 0 0\nend 0 21\n",
         ),
     ]
 }
@@ -86,7 +87,7 @@ fn accepted_chunks() -> Vec<ProgramCase> {
 #[rustfmt::skip]
 fn refused_chunks() -> Vec<ProgramCase> {
     vec![
-        case("a chunk of length 0", &[2, 1, 0], "board 8 4\n1 3 0 2\nend 0 3\n"),
+        case("a chunk of length 0", &[2, 1, 0], "board 8 4\n1 3 0 2 0\nend 0 3\n"),
         case(
             "every refusal of a chunk",
             &[
@@ -104,8 +105,36 @@ fn refused_chunks() -> Vec<ProgramCase> {
                 6, 0xE1, 0, 0, 6, 0x60, 5,
                 0,
             ],
-            "board 4 4\n1 3 0 1\n2 3 0 1\n3 4 0 1\n4 5 4 1\n5 6 4 1\n6 7 4 1\n7 8 4 1\n8 9 4 1\n\
-             9 10 4 1\n10 11 5 1\n11 0 6 0\n12 3 0 0\nend 0 65\n",
+            "board 4 4\n1 3 0 1 0\n2 3 0 1 0\n3 4 0 1 0\n4 5 4 1 0\n5 6 4 1 0\n6 7 4 1 0\n\
+             7 8 4 1 0\n8 9 4 1 0\n9 10 4 1 0\n10 11 5 1 1\n11 0 6 0 1\n12 3 0 0 0\nend 0 65\n",
+        ),
+    ]
+}
+
+#[rustfmt::skip]
+fn blocks() -> Vec<ProgramCase> {
+    vec![
+        case(
+            "every refusal at an opcode, behind other blocks",
+            &[
+                4, 2,
+                5, 0xE1, 0, 0, 5, 0x02,
+                6, 0xE1, 0, 0, 6, 0x02, 0x61,
+                6, 0xE1, 0, 0, 6, 0x05, 0xF1,
+                6, 0xE1, 0, 0, 6, 0x00, 0x41,
+                7, 0xE1, 0, 0, 7, 0x61, 9, 0x07,
+                7, 0xE1, 0, 0, 7, 0x03, 0x91, 0,
+                7, 0xE1, 0, 0, 7, 0x06, 0x00, 0xAA,
+                // Two blocks, and three pairs.
+                7, 0xE1, 0, 0, 7, 0x61, 9, 0x42,
+            ],
+            "board 16 8\n1 5 5 8 3\n2 6 5 8 3\n3 7 5 8 6\n4 8 5 8 1\n5 9 6 8 2\n6 10 5 8 4\n\
+             7 11 6 8 8\n8 0 7 0 8\nend 0 61\n",
+        ),
+        case(
+            "a block that 8 bits cannot tell",
+            &[40, 25, 9, 0xE1, 0, 0, 9, 0x10, 255, 0x10, 254, 0xF0],
+            "board 160 100\n1 7 8 1000 511\nend 0 12\n",
         ),
     ]
 }
@@ -118,7 +147,7 @@ fn zeros(length: usize) -> Vec<u8> {
 }
 
 fn zeros_print(chunks: usize, end: &str) -> String {
-    let lines = (1..=chunks).map(|chunk| format!("{chunk} 3 0 1\n"));
+    let lines = (1..=chunks).map(|chunk| format!("{chunk} 3 0 1 0\n"));
     format!("board 4 4\n{}{end}\n", lines.collect::<String>())
 }
 
@@ -133,7 +162,7 @@ fn longest_feeds() -> Vec<ProgramCase> {
     let slowly = case("32,768 bytes in pieces", &feed, &prints);
     // A length of three groups; its chunk states it too and has bytes after the last block.
     let chunk = starting(&[1, 1, 0xFB, 0xFF, 1, 0xE1, 0, 0x7F, 0xFB, 0x60, 5], 32_768);
-    let chunk_prints = "board 4 4\n1 11 6 1\nend 0 32768\n";
+    let chunk_prints = "board 4 4\n1 11 6 1 1\nend 0 32768\n";
     let mut cut = feed.clone();
     cut[32_767] = 5;
     let cut_prints = zeros_print(32_765, "end 13 32768");
@@ -166,7 +195,7 @@ fn pixel_limit() -> Vec<ProgramCase> {
     let fill = |counted: u8| [0x70, counted, 5];
     let runs = [fill(0xFF), fill(0xFF), fill(0xFF), fill(0xE7)].concat();
     let filled = [&[40, 25, 0, 16, 0xE1, 0, 0, 16], &runs[..]].concat();
-    let filled_prints = "board 160 100\n1 3 0 1000\n2 0 16 0\nend 0 20\n";
+    let filled_prints = "board 160 100\n1 3 0 1000 0\n2 0 16 0 1000\nend 0 20\n";
     let too_large = [
         ("77 x 13 blocks, 16,016 pixels", &[77, 13][..]),
         ("80 x 50 blocks", &[80, 50]),
@@ -249,7 +278,7 @@ fn failing_lengths() -> Vec<ProgramCase> {
     let settled = [SETTLED, &[0x86, 0]].concat();
     let settled_cut = [SETTLED, &[0x86]].concat();
     let (bad_prints, cut_prints) = ("board 8 4\nend 12 2\n", "board 8 4\nend 13 2\n");
-    let refused_prints = "board 8 4\n1 3 0 2\nend 12 3\n";
+    let refused_prints = "board 8 4\n1 3 0 2 0\nend 12 3\n";
     vec![
         case("length, four top bits", &five_groups, bad_prints),
         case("length, last group zero", &[2, 1, 0x80, 0], bad_prints),
@@ -259,12 +288,12 @@ fn failing_lengths() -> Vec<ProgramCase> {
         case(
             "accepted, then a bad length",
             &settled,
-            "board 8 4\n1 0 6 0\nend 12 9\n",
+            "board 8 4\n1 0 6 0 2\nend 12 9\n",
         ),
         case(
             "accepted, then a cut length",
             &settled_cut,
-            "board 8 4\n1 0 6 0\nend 13 9\n",
+            "board 8 4\n1 0 6 0 2\nend 13 9\n",
         ),
     ]
 }
@@ -278,7 +307,7 @@ fn cut_chunks() -> Vec<ProgramCase> {
         case(
             "accepted, then cut",
             &settled,
-            "board 8 4\n1 0 6 0\nend 13 10\n",
+            "board 8 4\n1 0 6 0 2\nend 13 10\n",
         ),
     ]
 }

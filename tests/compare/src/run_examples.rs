@@ -2,12 +2,12 @@
 
 use std::iter;
 
-use seatboard::exact::{Answer, Tally};
+use seatboard::exact::Tally;
 use seatboard::Size;
 
 use crate::compare::{Codec, Outcome};
-use crate::examples::{equal, fresh, left_board, lent_board, lent_picture};
-use crate::feed_examples::{COPIED, FAILING, FIVES, LISTING, NINE};
+use crate::examples::{answer, equal, fresh, left_board, lent_board, lent_picture, Said};
+use crate::feed_examples::{COPIED, FAILING, FIVES, HALF, LISTING, NINE};
 use crate::generate::{Board, SETTLED};
 use crate::replay::bytes_in_short;
 use crate::runs::{RunCase, BACKLOG};
@@ -25,35 +25,29 @@ const fn size(width: usize, height: usize) -> Size {
 
 struct Example {
     case: RunCase,
-    /// Number and place, and the number accepted.
-    answer: (u8, usize),
+    says: Said,
     accepted: usize,
     /// What the run leaves; none where it leaves what was lent.
     leaves: Option<(Vec<u8>, Vec<u16>)>,
 }
 
 /// On 8x4, as all that do not say otherwise.
-fn unchanged(run: &[u8], answer: (u8, usize), accepted: usize) -> Example {
+fn unchanged(run: &[u8], says: Said, accepted: usize) -> Example {
     Example {
         case: RunCase {
             board: lent_board(LENT),
             run: run.to_vec(),
         },
-        answer,
+        says,
         accepted,
         leaves: None,
     }
 }
 
-fn changed(
-    run: &[u8],
-    answer: (u8, usize),
-    accepted: usize,
-    (picture, map): (&[u8], [u16; 2]),
-) -> Example {
+fn changed(run: &[u8], says: Said, accepted: usize, (picture, map): (&[u8], [u16; 2])) -> Example {
     Example {
         leaves: Some((picture.to_vec(), map.to_vec())),
-        ..unchanged(run, answer, accepted)
+        ..unchanged(run, says, accepted)
     }
 }
 
@@ -68,36 +62,47 @@ fn whole_runs() -> Vec<Example> {
         .map(|pixel| 100 + pixel / 8 * 8 + pixel % 4)
         .collect();
     let upper_half = [&[9; 16], &lent_picture(32)[16..]].concat();
-    let mut upright = changed(&NINE, (0, 8), 1, (&upper_half, [SETTLED, 1]));
+    let mut upright = changed(&NINE, (0, 8, 2), 1, (&upper_half, [SETTLED, 1]));
     upright.case.board.size = size(4, 8);
     vec![
-        unchanged(&[], (0, 0), 0),
-        changed(&FIVES, (0, 7), 1, ALL_FIVE),
-        changed(&LISTING[2..], (0, 19), 2, ALL_FIVE),
+        unchanged(&[], (0, 0, 2), 0),
+        changed(&FIVES, (0, 7, 2), 1, ALL_FIVE),
+        changed(&LISTING[2..], (0, 19, 2), 2, ALL_FIVE),
         // The second chunk sees what the first one left; a refused one makes no difference.
-        changed(&join(&[&NINE, &COPIED]), (0, 15), 2, ALL_NINE),
-        changed(&join(&[&REFUSED, &NINE, &COPIED]), (0, 21), 2, ALL_NINE),
-        changed(&join(&[&NINE, &REFUSED, &COPIED]), (0, 21), 2, ALL_NINE),
-        changed(&join(&[&NINE, &COPIED, &REFUSED]), (0, 21), 2, ALL_NINE),
-        changed(&join(&[&NINE, &EMPTY, &COPIED]), (0, 16), 2, ALL_NINE),
-        changed(&join(&[&EMPTY, &FIVES, &EMPTY]), (0, 9), 1, ALL_FIVE),
+        changed(&join(&[&NINE, &COPIED]), (0, 15, 2), 2, ALL_NINE),
+        changed(&join(&[&REFUSED, &NINE, &COPIED]), (0, 21, 2), 2, ALL_NINE),
+        changed(&join(&[&NINE, &REFUSED, &COPIED]), (0, 21, 2), 2, ALL_NINE),
+        changed(&join(&[&NINE, &COPIED, &REFUSED]), (0, 21, 2), 2, ALL_NINE),
+        changed(&join(&[&NINE, &EMPTY, &COPIED]), (0, 16, 2), 2, ALL_NINE),
+        changed(&join(&[&EMPTY, &FIVES, &EMPTY]), (0, 9, 2), 1, ALL_FIVE),
         // Block 1 is settled by the first chunk and unsettled by the second.
         changed(
             &join(&[&block_1, &COPIED]),
-            (0, 15),
+            (0, 15, 2),
             2,
             (&left_half_twice, [0, 0]),
         ),
-        unchanged(&EMPTY, (0, 1), 0),
-        unchanged(&[0, 0, 0], (0, 3), 0),
-        unchanged(&REFUSED, (0, 6), 0),
+        unchanged(&EMPTY, (0, 1, 2), 0),
+        unchanged(&[0, 0, 0], (0, 3, 2), 0),
+        unchanged(&REFUSED, (0, 6, 2), 0),
         // Accepted without a change, it counts all the same.
-        unchanged(&KEPT, (0, 6), 1),
-        unchanged(&join(&[&KEPT, &REFUSED, &KEPT]), (0, 18), 2),
+        unchanged(&KEPT, (0, 6, 2), 1),
+        unchanged(&join(&[&KEPT, &REFUSED, &KEPT]), (0, 18, 2), 2),
         // The chunk's bytes are those of the run's own length, whatever the chunk states.
-        unchanged(&[7, 0xE1, 0, 0, 6, 0x61, 5, 0], (0, 8), 0),
+        unchanged(&[7, 0xE1, 0, 0, 6, 0x61, 5, 0], (0, 8, 2), 0),
         // 4x8 has buffers of the same lengths.
         upright,
+    ]
+}
+
+/// That the last chunk was refused at another block does not show.
+fn refused_behind() -> Vec<Example> {
+    let mut eight = unchanged(&HALF, (0, 6, 8), 0);
+    eight.case.board = lent_board(size(16, 8));
+    vec![
+        unchanged(&HALF, (0, 6, 2), 0),
+        changed(&[&FIVES[..], &HALF].concat(), (0, 13, 2), 1, ALL_FIVE),
+        eight,
     ]
 }
 
@@ -114,7 +119,7 @@ fn backlog() -> Example {
         &[0xE1, 0, 0, 8, 0x60, 1, 0x90, 0],
         &[0xE1, 0, 0, 7, 0x67, 1, 0x00],
     ];
-    let mut example = unchanged(&[], (0, 0), 0);
+    let mut example = unchanged(&[], (0, 0, 2), 0);
     let mut painted = [0; 8];
     for chunk in 0..BACKLOG {
         let (block, refused) = (chunk % 8, chunk % 5 == 2);
@@ -130,7 +135,7 @@ fn backlog() -> Example {
     }
     let pixels = (0..128).map(|pixel| painted[pixel / 64 * 4 + pixel % 16 / 4]);
     example.case.board = lent_board(size(16, 8));
-    example.answer = (0, example.case.run.len());
+    example.says = (0, example.case.run.len(), 8);
     example.leaves = Some((pixels.collect(), vec![SETTLED; 8]));
     example
 }
@@ -151,23 +156,24 @@ fn many_chunks() -> Vec<Example> {
     let refused_between = [&KEPT[..], &REFUSED, &FIVES].concat();
     let times = |times| refused_between.repeat(times);
     vec![
-        changed(&times(128), (0, 128 * 19), 256, ALL_FIVE),
-        changed(&times(150), (0, 150 * 19), 300, ALL_FIVE),
-        changed(&times(35_000), (0, 35_000 * 19), 70_000, ALL_FIVE),
+        changed(&times(128), (0, 128 * 19, 2), 256, ALL_FIVE),
+        changed(&times(150), (0, 150 * 19, 2), 300, ALL_FIVE),
+        changed(&times(35_000), (0, 35_000 * 19, 2), 70_000, ALL_FIVE),
     ]
 }
 
-/// At the start, after an accepted chunk, and after a refused one behind that.
+/// At the start, after a refused chunk, after an accepted one, and after several.
 fn failing_numbers() -> Vec<Example> {
     let all_places = |(number, fails): (&[u8], u8)| {
         let after = |chunks: &[&[u8]]| [&chunks.concat(), number].concat();
         [
-            unchanged(number, (fails, 0), 0),
-            unchanged(&after(&[&REFUSED]), (fails, 6), 0),
-            changed(&after(&[&FIVES]), (fails, 7), 1, ALL_FIVE),
+            unchanged(number, (fails, 0, 0), 0),
+            unchanged(&after(&[&REFUSED]), (fails, 6, 0), 0),
+            unchanged(&after(&[&HALF]), (fails, 6, 0), 0),
+            changed(&after(&[&FIVES]), (fails, 7, 0), 1, ALL_FIVE),
             changed(
                 &after(&[&NINE, &REFUSED, &COPIED]),
-                (fails, 21),
+                (fails, 21, 0),
                 2,
                 ALL_NINE,
             ),
@@ -179,16 +185,16 @@ fn failing_numbers() -> Vec<Example> {
 fn cut_chunks() -> Vec<Example> {
     let after_fives = |rest: &[u8]| [&FIVES, rest].concat();
     vec![
-        unchanged(&[1], (13, 1), 0),
-        unchanged(&[0, 1], (13, 2), 0),
+        unchanged(&[1], (13, 1, 0), 0),
+        unchanged(&[0, 1], (13, 2, 0), 0),
         // What is there of it would be accepted.
-        unchanged(&[7, 0xE1, 0, 0, 6, 0x61, 5], (13, 1), 0),
-        unchanged(&[0xFF, 0xFF, 0xFF, 7], (13, 4), 0),
+        unchanged(&[7, 0xE1, 0, 0, 6, 0x61, 5], (13, 1, 0), 0),
+        unchanged(&[0xFF, 0xFF, 0xFF, 7], (13, 4, 0), 0),
         // In 16 bits the length would be 5.
-        unchanged(&[0x85, 0x80, 4, 0xE1, 0, 0, 5, 0x01], (13, 3), 0),
-        changed(&after_fives(&[6, 0xE1, 0]), (13, 8), 1, ALL_FIVE),
-        changed(&after_fives(&[0xAC, 2, 0xE1]), (13, 9), 1, ALL_FIVE),
-        changed(&after_fives(&NINE[..7]), (13, 8), 1, ALL_FIVE),
+        unchanged(&[0x85, 0x80, 4, 0xE1, 0, 0, 5, 0x01], (13, 3, 0), 0),
+        changed(&after_fives(&[6, 0xE1, 0]), (13, 8, 0), 1, ALL_FIVE),
+        changed(&after_fives(&[0xAC, 2, 0xE1]), (13, 9, 0), 1, ALL_FIVE),
+        changed(&after_fives(&NINE[..7]), (13, 8, 0), 1, ALL_FIVE),
     ]
 }
 
@@ -203,17 +209,17 @@ fn cut_everywhere() -> Vec<Example> {
     let lent = (lent_picture(32), [0, 1]);
     let first = (left_half, [SETTLED, 1]);
     let example = |cut: usize| {
-        let (answer, accepted, left) = match cut {
-            0 => ((0, 0), 0, &lent),
-            1..8 => ((13, 1), 0, &lent),
-            8 => ((0, 8), 1, &first),
-            9 => ((13, 8), 1, &first),
-            10..140 => ((13, 10), 1, &first),
-            140 => ((0, 140), 1, &first),
-            141..147 => ((13, 141), 1, &first),
-            _ => return changed(&run, (0, 147), 2, ALL_NINE),
+        let (says, accepted, left) = match cut {
+            0 => ((0, 0, 2), 0, &lent),
+            1..8 => ((13, 1, 0), 0, &lent),
+            8 => ((0, 8, 2), 1, &first),
+            9 => ((13, 8, 0), 1, &first),
+            10..140 => ((13, 10, 0), 1, &first),
+            140 => ((0, 140, 2), 1, &first),
+            141..147 => ((13, 141, 0), 1, &first),
+            _ => return changed(&run, (0, 147, 2), 2, ALL_NINE),
         };
-        changed(&run[..cut], answer, accepted, (&left.0, left.1))
+        changed(&run[..cut], says, accepted, (&left.0, left.1))
     };
     (0..=run.len()).map(example).collect()
 }
@@ -248,7 +254,7 @@ const REFUSED_BOARDS: [(u8, Size, usize, usize); 20] = [
 fn refused_boards() -> Vec<Example> {
     let runs: [&[u8]; 5] = [&FIVES, &[], &EMPTY, &[0x80, 0], &[9]];
     let refused = |run: &[u8], (number, size, pixels, entries)| {
-        let mut example = unchanged(run, (number, 0), 0);
+        let mut example = unchanged(run, (number, 0, 0), 0);
         example.case.board = Board {
             size,
             picture: lent_picture(pixels),
@@ -263,6 +269,7 @@ fn refused_boards() -> Vec<Example> {
 pub fn check(codec: &Codec) -> Result<(), String> {
     let groups = [
         whole_runs(),
+        refused_behind(),
         vec![backlog()],
         many_chunks(),
         failing_numbers(),
@@ -279,12 +286,11 @@ pub fn check(codec: &Codec) -> Result<(), String> {
 fn check_run(codec: &Codec, example: &Example) -> Result<(), String> {
     let RunCase { board, run } = &example.case;
     let left = left_board(board, &example.leaves);
-    let (number, place) = example.answer;
     let found = Outcome::of(board, |picture, map| {
         (codec.walk_run)(board.size, run, picture, map)
     });
     let expected = Outcome::of(&left, |_, _| Tally {
-        answer: Answer { number, place },
+        answer: answer(example.says),
         accepted: example.accepted,
     });
     equal(&found, &expected, || {

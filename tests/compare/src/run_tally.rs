@@ -1,6 +1,7 @@
 //! What the compared runs had in them, so that a comparison which missed something says so.
 
 use seatboard::Size;
+use second::reader::At;
 use second::walk::{ChunkRead, Fault, Stop, Walk};
 
 use crate::compare::RunComparison;
@@ -19,7 +20,7 @@ pub struct RunTally {
 
 impl RunTally {
     pub fn add(&mut self, case: &RunCase, compared: &RunComparison) {
-        let (number, _) = compared.walk.number_and_place();
+        let (number, _) = compared.walk.number_and_at();
         self.ends.add(number);
         self.boards.add(boards(case, number));
         self.stops.add(stops(case, &compared.walk));
@@ -78,7 +79,7 @@ fn stops(RunCase { run, .. }: &RunCase, walk: &Walk) -> [Thing; 8] {
         Err(Stop::CutChunk(first)) => Some(first),
         _ => None,
     };
-    let after_accepted = |which| walk.number_and_place().0 == which && walk.accepted() > 0;
+    let after_accepted = |which| walk.number_and_at().0 == which && walk.accepted() > 0;
     [
         (
             "12: fourth group with its top bit",
@@ -137,7 +138,10 @@ fn chunks(walk: &Walk) -> [Thing; 4] {
     let two_groups = |chunk: &ChunkRead| chunk.number == 0 && chunk.length >= 1 << 7;
     let rises = |two: &[ChunkRead]| two[0].unsettled < two[1].unsettled;
     [
-        ("empty runs that got 0", matches!(walk.end, Ok(0))),
+        (
+            "empty runs that got 0",
+            matches!(walk.end, Ok(At { place: 0, .. })),
+        ),
         (
             "runs with a chunk of length 0",
             chunks.iter().any(|chunk| chunk.length == 0),

@@ -1,11 +1,10 @@
 //! Symbols made by hand, with what 001, 01 and 02 say of them: first what is painted, then each way
 //! to be refused, and the doubtful places. All but one are put on an 8x4 picture.
 
-use seatboard::exact::Answer;
 use seatboard::Size;
 
 use crate::compare::{Codec, Painting};
-use crate::examples::{lent_picture, without};
+use crate::examples::{lent_picture, number_alone, without, FOUND_AND_SAID};
 use crate::replay::bytes_in_short;
 use crate::symbols::{Placed, SymbolCase};
 
@@ -390,14 +389,11 @@ fn check_symbol(codec: &Codec, example: &Example) -> Result<(), String> {
     let found = Painting::of(&lent, |picture, file| {
         (codec.paint_symbol)(size, picture, file, placed)
     });
-    let expected = Painting::of(&left, |_, _| Answer { number, place: 0 });
-    without(
-        found.differences(&expected, ["it has", "should have"]),
-        || {
-            let file = bytes_in_short(&example.file);
-            format!("{}, {placed:?}, file {file}", example.name)
-        },
-    )
+    let expected = Painting::of(&left, |_, _| number_alone(number));
+    without(found.differences(&expected, FOUND_AND_SAID), || {
+        let file = bytes_in_short(&example.file);
+        format!("{}, {placed:?}, file {file}", example.name)
+    })
 }
 
 fn case(example: &Example) -> SymbolCase {

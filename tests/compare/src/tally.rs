@@ -1,5 +1,6 @@
 //! What the compared chunks had in them, so that a run which missed something says so.
 
+use seatboard::exact::Answer;
 use seatboard::Reason;
 use second::reader::{Command, Step};
 
@@ -31,9 +32,17 @@ const TABLES: [&str; 3] = ["pair", "quad", "octet"];
 /// The opcodes that count in a byte of their own, with the most blocks each can take.
 const LONGEST_RUNS: [(u8, usize); 4] = [(0x1, 256), (0x3, 256), (0x5, 512), (0x7, 256)];
 
+/// The numbers that are found at an opcode, and where among the blocks of the picture.
+const AT_OPCODES: [u8; 6] = [5, 6, 7, 8, 9, 10];
+const STOPS: [&str; 3] = ["block 0", "a block between", "the last block"];
+
 #[derive(Default)]
 pub struct Tally {
     numbers: Numbers,
+    /// In the order of `AT_OPCODES`, then of `STOPS`.
+    stops: [[usize; 3]; 6],
+    /// Of these, at a block that 8 bits cannot tell.
+    far_stops: usize,
     /// Accepted chunks that used each opcode, 0 to E.
     opcodes: [usize; 15],
     /// Accepted chunks that stored past entry 255 of each table.
@@ -49,12 +58,26 @@ pub struct Tally {
 }
 
 impl Tally {
-    /// A refused chunk has no steps and so adds to nothing but the numbers.
+    /// A refused chunk has no steps and so adds to nothing but the numbers and stops.
     pub fn add(&mut self, Case { board, chunk }: &Case, compared: &Comparison) {
         self.numbers.add(compared.answer.number);
+        self.add_stop(board.map.len(), compared.answer);
         self.add_opcodes(chunk, &compared.steps);
         self.add_tables(chunk, &compared.steps);
         self.add_copies(board.size.width / 4, &compared.steps);
+    }
+
+    fn add_stop(&mut self, blocks: usize, Answer { number, block, .. }: Answer) {
+        let Some(which) = AT_OPCODES.iter().position(|refused| *refused == number) else {
+            return;
+        };
+        let stop = match block {
+            0 => 0,
+            _ if block + 1 < blocks => 1,
+            _ => 2,
+        };
+        self.stops[which][stop] += 1;
+        self.far_stops += usize::from(block > 255);
     }
 
     fn add_opcodes(&mut self, chunk: &[u8], steps: &[Step]) {
@@ -113,6 +136,17 @@ impl Tally {
 
     pub fn number_counts(&self) -> Counts {
         self.numbers.counts("number", 0..=11)
+    }
+
+    pub fn stop_counts(&self) -> Counts {
+        let of_number = |(number, stops)| {
+            let name = move |stop: usize| format!("number {number} at {}", STOPS[stop]);
+            named(stops, name)
+        };
+        let numbers = AT_OPCODES.into_iter().zip(self.stops);
+        let mut counts: Counts = numbers.flat_map(of_number).collect();
+        counts.push(("of these, at a block past 255".into(), self.far_stops));
+        counts
     }
 
     pub fn opcode_counts(&self) -> Counts {

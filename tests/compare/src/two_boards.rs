@@ -5,7 +5,7 @@
 //! exactly when": a block that shows one and the same block of either start shows different pixels
 //! on the two boards, and one that shows the same pixels on both comes from neither start.
 
-use seatboard::{Accepted, Refused, Size, SETTLED};
+use seatboard::{Accepted, Reason, Refused, Size, SETTLED};
 use second::reader::pixel_blocks;
 use second::walk;
 
@@ -39,7 +39,7 @@ struct Ran {
 /// What the sequences had, so that a comparison which missed something says so.
 #[derive(Default)]
 pub struct Tally {
-    sequences: Things<11>,
+    sequences: Things<12>,
     runs: Things<6>,
 }
 
@@ -142,7 +142,7 @@ fn wrong_blocks(sequence: &Sequence, first: &Ran, second: &Ran) -> Vec<String> {
     entries.filter_map(wrong).collect()
 }
 
-fn things(sequence: &Sequence, ran: &Ran) -> [Thing; 11] {
+fn things(sequence: &Sequence, ran: &Ran) -> [Thing; 12] {
     let Size { width, height } = sequence.size;
     let calls = || sequence.calls.iter().zip(&ran.answers);
     let read = |accepted| {
@@ -161,6 +161,7 @@ fn things(sequence: &Sequence, ran: &Ran) -> [Thing; 11] {
         ("sequences without a call", sequence.calls.is_empty()),
         ("sequences with an accepted chunk", calls().any(read(true))),
         ("sequences with a refused chunk", calls().any(read(false))),
+        ("with a chunk refused behind block 0", calls().any(behind)),
         ("with a walk that got 0", calls().any(walked(&[0]))),
         ("with a walk that got 1 or 2", calls().any(walked(&[1, 2]))),
         ("with a walk that got 12", calls().any(walked(&[12]))),
@@ -179,6 +180,11 @@ fn things(sequence: &Sequence, ran: &Ran) -> [Thing; 11] {
             left > 0 && left < width * height / 16,
         ),
     ]
+}
+
+fn behind((_, answered): (&Call, &Answered)) -> bool {
+    let at_opcode = |refused: Refused| refused.reason != Reason::BytesFollow && refused.block > 0;
+    answered.end.is_err_and(at_opcode)
 }
 
 /// What its runs did.

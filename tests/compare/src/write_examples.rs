@@ -1,12 +1,11 @@
 //! Chunks written out by hand, as 01 says that they are written; its own examples come first. Each
 //! is tried with outputs that have room for it and with such as are too short.
 
-use seatboard::exact::Answer;
 use seatboard::Size;
 
 use crate::compare::{Codec, Writing};
 use crate::examples::{
-    lent_picture, without, FOUND_AND_SAID, HALF_BYTES, HALF_BYTES_PIXELS, LOWER_LEFT,
+    answer, lent_picture, without, FOUND_AND_SAID, HALF_BYTES, HALF_BYTES_PIXELS, LOWER_LEFT,
     LOWER_LEFT_PIXELS,
 };
 use crate::generate::{Board, FULL};
@@ -209,19 +208,19 @@ fn check_outputs(codec: &Codec, example: &Example) -> Result<(), String> {
 fn check_write(codec: &Codec, example: &Example, length: usize) -> Result<(), String> {
     let lent = case(example, length);
     let mut left = case(example, length);
-    let (number, place) = match &example.says {
-        Err(number) => (*number, 0),
-        Ok(chunk) if chunk.len() > length => (14, 0),
+    let says = match &example.says {
+        Err(number) => (*number, 0, 0),
+        Ok(chunk) if chunk.len() > length => (14, 0, 0),
         Ok(chunk) => {
             left.output[..chunk.len()].copy_from_slice(chunk);
-            (0, chunk.len())
+            (0, chunk.len(), example.new.len() / 16)
         }
     };
     let size = lent.board.size;
     let found = Writing::of(&lent, |old, new, output| {
         (codec.write_chunk)(size, old, new, output)
     });
-    let expected = Writing::of(&left, |_, _, _| Answer { number, place });
+    let expected = Writing::of(&left, |_, _, _| answer(says));
     without(found.differences(&expected, FOUND_AND_SAID), || {
         format!("{size:?}, {:02X?}, output of {length} bytes", example.says)
     })

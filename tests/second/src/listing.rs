@@ -1,6 +1,7 @@
-//! The independent second listing: what the board program prints for a feed, written from paper
-//! 01 over the second walk.
+//! The independent second listing: what the board program prints for a feed, written from papers
+//! 01 and 02 (its fifth column) over the second walk.
 
+use crate::reader::At;
 use crate::walk;
 
 /// 01: the board program takes feeds up to these.
@@ -15,7 +16,7 @@ pub fn listing(feed: &[u8]) -> String {
         return TOO_LARGE.into();
     }
     match walk::size(feed) {
-        Err(stop) => end_line(stop.number_and_place()),
+        Err(stop) => end_line(stop.number_and_at()),
         Ok(((width, height), _)) if width * height > MOST_PIXELS => TOO_LARGE.into(),
         Ok((size, _)) => board_and_chunks(feed, size),
     }
@@ -29,15 +30,17 @@ fn board_and_chunks(feed: &[u8], (width, height): (usize, usize)) -> String {
     let mut text = format!("board {width} {height}\n");
     for (before, read) in walk.chunks.iter().enumerate() {
         let chunk = before + 1;
+        let At { place, block } = read.at;
         let line = format!(
-            "{chunk} {} {} {}\n",
-            read.number, read.place, read.unsettled
+            "{chunk} {} {place} {} {block}\n",
+            read.number, read.unsettled
         );
         text.push_str(&line);
     }
-    text + &end_line(walk.number_and_place())
+    text + &end_line(walk.number_and_at())
 }
 
-fn end_line((number, place): (u8, usize)) -> String {
-    format!("end {number} {place}\n")
+/// It has no block (02).
+fn end_line((number, at): (u8, At)) -> String {
+    format!("end {number} {}\n", at.place)
 }

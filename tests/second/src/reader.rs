@@ -1,5 +1,5 @@
-//! The independent second reader of SMC chunks, written from papers 01 (the rules) and 003 (the
-//! published description) and from nothing of ours.
+//! The independent second reader of SMC chunks, written from papers 01 (the rules), 02 (which block)
+//! and 003 (the published description) and from nothing of ours.
 //!
 //! A chunk is first parsed whole into commands, with every table entry already replaced by its
 //! colours. Only a chunk without fault is then applied, to a picture held as blocks; so a refused
@@ -8,40 +8,73 @@
 /// 01, "Picture, blocks, map": this map entry means settled.
 const SETTLED: u16 = 65_535;
 
-/// 01, "Numbered outcomes", 1 to 11 and 14; those found in the opcodes carry their place, and 14
-/// the length of the chunk for which there is no room.
+/// Where a call stopped: 01's place, and 02's block, which is how many have had their turn there.
+#[derive(Clone, Copy, Debug, PartialEq, Eq)]
+pub struct At {
+    pub place: usize,
+    pub block: usize,
+}
+
+impl At {
+    /// Of what has no place either.
+    pub const NOWHERE: At = At::no_block(0);
+
+    /// 02: block 0 for all that no opcode has a say in.
+    pub const fn no_block(place: usize) -> Self {
+        At { place, block: 0 }
+    }
+
+    /// Of what was accepted: its length (01), and the number of blocks (02).
+    pub fn end(length: usize, map: &[u16]) -> Self {
+        At {
+            place: length,
+            block: map.len(),
+        }
+    }
+}
+
+/// 01, "Numbered outcomes", 1 to 11 and 14; those found in the opcodes carry where, and 14 the
+/// length of the chunk for which there is no room.
 #[derive(Clone, Copy, Debug)]
 pub enum Refusal {
     SizeNotAllowed,
     LentLength,
     UnderFourBytes,
     StatedLength,
-    NoMoreOpcodes(usize),
-    CutInside(usize),
-    UnknownOpcode(usize),
-    NoBlockBefore(usize),
-    PastLastBlock(usize),
-    UnfilledEntry(usize),
-    BytesFollow(usize),
+    NoMoreOpcodes(At),
+    CutInside(At),
+    UnknownOpcode(At),
+    NoBlockBefore(At),
+    PastLastBlock(At),
+    UnfilledEntry(At),
+    BytesFollow(At),
     OutputTooShort(usize),
 }
 
 impl Refusal {
-    pub fn number_and_place(self) -> (u8, usize) {
+    pub fn number_and_at(self) -> (u8, At) {
         match self {
-            Refusal::SizeNotAllowed => (1, 0),
-            Refusal::LentLength => (2, 0),
-            Refusal::UnderFourBytes => (3, 0),
-            Refusal::StatedLength => (4, 0),
-            Refusal::NoMoreOpcodes(place) => (5, place),
-            Refusal::CutInside(place) => (6, place),
-            Refusal::UnknownOpcode(place) => (7, place),
-            Refusal::NoBlockBefore(place) => (8, place),
-            Refusal::PastLastBlock(place) => (9, place),
-            Refusal::UnfilledEntry(place) => (10, place),
-            Refusal::BytesFollow(place) => (11, place),
-            Refusal::OutputTooShort(_) => (14, 0),
+            Refusal::SizeNotAllowed => (1, At::NOWHERE),
+            Refusal::LentLength => (2, At::NOWHERE),
+            Refusal::UnderFourBytes => (3, At::NOWHERE),
+            Refusal::StatedLength => (4, At::NOWHERE),
+            Refusal::NoMoreOpcodes(at) => (5, at),
+            Refusal::CutInside(at) => (6, at),
+            Refusal::UnknownOpcode(at) => (7, at),
+            Refusal::NoBlockBefore(at) => (8, at),
+            Refusal::PastLastBlock(at) => (9, at),
+            Refusal::UnfilledEntry(at) => (10, at),
+            Refusal::BytesFollow(at) => (11, at),
+            Refusal::OutputTooShort(_) => (14, At::NOWHERE),
         }
+    }
+}
+
+/// What a call tells that was accepted there, or refused.
+pub fn number_and_at<T>(outcome: &Result<T, Refusal>, accepted: At) -> (u8, At) {
+    match outcome {
+        Ok(_) => (0, accepted),
+        Err(refusal) => refusal.number_and_at(),
     }
 }
 
@@ -167,11 +200,11 @@ struct Parser<'a> {
     chunk: &'a [u8],
     /// The next byte to take.
     next: usize,
-    /// Where the opcode in hand stands.
-    place: usize,
     /// Blocks that have had their turn, and all blocks of the picture.
     done: usize,
     blocks: usize,
+    /// Where the opcode in hand stands, before it gives any block its turn.
+    opcode: At,
     pairs: Table<2>,
     quads: Table<4>,
     octets: Table<8>,
@@ -188,38 +221,44 @@ fn parse(chunk: &[u8], blocks: usize) -> Result<Vec<Step>, Refusal> {
     let mut parser = Parser {
         chunk,
         next: 4,
-        place: 4,
         done: 0,
         blocks,
+        opcode: At::NOWHERE,
         pairs: Table(Vec::new()),
         quads: Table(Vec::new()),
         octets: Table(Vec::new()),
     };
     let mut steps = Vec::new();
     while parser.done < blocks {
-        let first = parser.done;
         let command = parser.command()?;
         steps.push(Step {
-            place: parser.place,
-            first,
+            place: parser.opcode.place,
+            first: parser.opcode.block,
             command,
         });
     }
     if parser.next < chunk.len() {
-        return Err(Refusal::BytesFollow(parser.next));
+        return Err(Refusal::BytesFollow(parser.here()));
     }
     Ok(steps)
 }
 
 impl Parser<'_> {
+    fn here(&self) -> At {
+        At {
+            place: self.next,
+            block: self.done,
+        }
+    }
+
     /// 01's order within one opcode: 5, 7, the count byte (6), 8, 9, colour bytes or entry number
     /// (6), 10, remaining bytes (6).
     fn command(&mut self) -> Result<Command, Refusal> {
-        self.place = self.next;
+        self.opcode = self.here();
         let opcode = *self
             .chunk
-            .get(self.place)
-            .ok_or(Refusal::NoMoreOpcodes(self.place))?;
+            .get(self.next)
+            .ok_or(Refusal::NoMoreOpcodes(self.opcode))?;
         self.next += 1;
         match opcode >> 4 {
             upper @ 0x0..=0x7 => {
@@ -231,7 +270,7 @@ impl Parser<'_> {
                 };
                 self.run(upper, 1 + usize::from(counted))
             }
-            0xF => Err(Refusal::UnknownOpcode(self.place)),
+            0xF => Err(Refusal::UnknownOpcode(self.opcode)),
             upper => self.drawing(upper, 1 + usize::from(opcode & 15)),
         }
     }
@@ -291,7 +330,7 @@ impl Parser<'_> {
 
     fn naming(&mut self, upper: u8, n: usize) -> Result<Command, Refusal> {
         let [entry] = self.take()?;
-        let unfilled = Refusal::UnfilledEntry(self.place);
+        let unfilled = Refusal::UnfilledEntry(self.opcode);
         match upper {
             0x9 => {
                 let colours = self.pairs.entry(entry).ok_or(unfilled)?;
@@ -310,14 +349,14 @@ impl Parser<'_> {
 
     fn needs_before(&self, blocks: usize) -> Result<(), Refusal> {
         if self.done < blocks {
-            return Err(Refusal::NoBlockBefore(self.place));
+            return Err(Refusal::NoBlockBefore(self.opcode));
         }
         Ok(())
     }
 
     fn turns(&mut self, blocks: usize) -> Result<(), Refusal> {
         if blocks > self.blocks - self.done {
-            return Err(Refusal::PastLastBlock(self.place));
+            return Err(Refusal::PastLastBlock(self.opcode));
         }
         self.done += blocks;
         Ok(())
@@ -326,7 +365,7 @@ impl Parser<'_> {
     fn take<const BYTES: usize>(&mut self) -> Result<[u8; BYTES], Refusal> {
         let taken = self.chunk[self.next..]
             .first_chunk()
-            .ok_or(Refusal::CutInside(self.place))?;
+            .ok_or(Refusal::CutInside(self.opcode))?;
         self.next += BYTES;
         Ok(*taken)
     }

@@ -4,7 +4,7 @@
 //!
 //! What each chunk answered is kept, for the second listing (listing.rs) and the tally.
 
-use crate::reader::{self, Refusal};
+use crate::reader::{self, At, Refusal};
 
 /// 01: a number above this is badly formed.
 const GREATEST: usize = 16_777_215;
@@ -26,7 +26,8 @@ pub enum Fault {
     TooGreat,
 }
 
-/// What ends a walk before the feed's or run's end; all but 1 and 2 carry their place.
+/// What ends a walk before the feed's or run's end; all but 1 and 2 carry their place. None is found
+/// at an opcode.
 #[derive(Clone, Copy, Debug)]
 pub enum Stop {
     /// 1 or 2.
@@ -37,11 +38,11 @@ pub enum Stop {
 }
 
 impl Stop {
-    pub fn number_and_place(self) -> (u8, usize) {
+    pub fn number_and_at(self) -> (u8, At) {
         match self {
-            Stop::Board(refusal) => refusal.number_and_place(),
-            Stop::BadNumber(_, _, place) => (12, place),
-            Stop::CutNumber(_, place) | Stop::CutChunk(place) => (13, place),
+            Stop::Board(refusal) => refusal.number_and_at(),
+            Stop::BadNumber(_, _, place) => (12, At::no_block(place)),
+            Stop::CutNumber(_, place) | Stop::CutChunk(place) => (13, At::no_block(place)),
         }
     }
 }
@@ -53,28 +54,28 @@ pub struct ChunkRead {
     pub first: usize,
     pub length: usize,
     pub number: u8,
-    pub place: usize,
+    pub at: At,
     pub unsettled: usize,
 }
 
 pub struct Walk {
-    /// The length used, or what ended it.
-    pub end: Result<usize, Stop>,
+    /// The length used with the number of blocks, or what ended it.
+    pub end: Result<At, Stop>,
     pub chunks: Vec<ChunkRead>,
 }
 
 impl Walk {
     /// What was read is kept, whatever ends the walk.
-    fn of(walk: impl FnOnce(&mut Vec<ChunkRead>) -> Result<usize, Stop>) -> Self {
+    fn of(walk: impl FnOnce(&mut Vec<ChunkRead>) -> Result<At, Stop>) -> Self {
         let mut chunks = Vec::new();
         let end = walk(&mut chunks);
         Walk { end, chunks }
     }
 
-    pub fn number_and_place(&self) -> (u8, usize) {
+    pub fn number_and_at(&self) -> (u8, At) {
         match self.end {
             Ok(used) => (0, used),
-            Err(stop) => stop.number_and_place(),
+            Err(stop) => stop.number_and_at(),
         }
     }
 
@@ -117,7 +118,7 @@ fn walk_chunks(
     mut at: usize,
     mut lent: Lent,
     chunks: &mut Vec<ChunkRead>,
-) -> Result<usize, Stop> {
+) -> Result<At, Stop> {
     reader::check_lent(lent.size, lent.picture, lent.map).map_err(Stop::Board)?;
     while at < bytes.len() {
         let (length, first) = number(bytes, at, Number::ChunkLength)?;
@@ -128,23 +129,21 @@ fn walk_chunks(
         chunks.push(lent.read(first, &rest[..length])?);
         at = first + length;
     }
-    Ok(at)
+    Ok(At::end(at, lent.map))
 }
 
 impl Lent<'_> {
     /// 01: read just as that chunk is read by itself; a refusal is kept and does not end the walk.
     fn read(&mut self, first: usize, chunk: &[u8]) -> Result<ChunkRead, Stop> {
-        let (number, place) = match reader::read_chunk(self.size, chunk, self.picture, self.map) {
-            Ok(_) => (0, chunk.len()),
-            Err(refusal) => refusal.number_and_place(),
-        };
+        let reading = reader::read_chunk(self.size, chunk, self.picture, self.map);
+        let (number, at) = reader::number_and_at(&reading, At::end(chunk.len(), self.map));
         let (width, height) = self.size;
         let unsettled = reader::count(width, height, self.map).map_err(Stop::Board)?;
         Ok(ChunkRead {
             first,
             length: chunk.len(),
             number,
-            place,
+            at,
             unsettled,
         })
     }

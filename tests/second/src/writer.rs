@@ -8,7 +8,7 @@
 
 use std::collections::BTreeSet;
 
-use crate::reader::{check_picture, pixel_blocks, Refusal};
+use crate::reader::{check_picture, pixel_blocks, At, Refusal};
 
 const LONGEST_RUN: usize = 256;
 /// A longer run counts in a byte of its own.
@@ -36,6 +36,16 @@ impl Command {
 pub struct Chunk {
     pub commands: Vec<Command>,
     pub bytes: Vec<u8>,
+}
+
+impl Chunk {
+    /// 01: the length written; 02: all blocks have had their turn.
+    pub fn end(&self) -> At {
+        At {
+            place: self.bytes.len(),
+            block: self.commands.iter().map(Command::blocks).sum(),
+        }
+    }
 }
 
 /// Writes the chunk to the output's first bytes. 01's order: 1, 2 for either picture, then 14.

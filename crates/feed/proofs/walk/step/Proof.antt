@@ -12,6 +12,9 @@ next-at-requires c κs = search needs
 enum-known-answer : tie.Need-enum-known-answer
 enum-known-answer c = search needs
 
+ended-requires : tie.Need-ended-requires
+ended-requires c κs = search needs
+
 enum-known-first : tie.Need-enum-known-first
 enum-known-first c = search needs
 
@@ -29,7 +32,8 @@ read-chunk-requires c κs = search needs
 
 returns : tie.Need-returns
 unfolding walkStep
-returns c = rw (← c .before .before .before .next-at .ensures, c .before .answer .given .1) (refl, (refl, refl))
+returns c =
+    rw (← c .before .before .before .before .next-at .ensures, c .before .before .answer .given .1) (ap Step.End (c .ended .ensures), (refl, refl))
 
 same-length : tie.Need-same-length
 same-length c = search needs
@@ -50,6 +54,7 @@ step-spec =
     (tie.spec
     next-at-requires
     enum-known-answer
+    ended-requires
     enum-known-first
     sub-read-chunk
     part-read-chunk-start

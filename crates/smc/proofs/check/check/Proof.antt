@@ -1,11 +1,15 @@
+use mathlib.Core.Path.{_∙_}
 use native.Mathlib.Omega.{arith}
 use borrow.Author.Needs.{needs}
 use Rattle.smc.proofs.Behind.{ends-short, ends-differs, stated}
 use Rattle.smc.proofs.check.check.Statement.{statement}
 use Rattle.smc.proofs.check.check.Tie as tie
 
+stop-requires : tie.Need-stop-requires
+stop-requires c κs = search needs
+
 returns : tie.Need-returns
-returns c = ends-short _ _ (omega arith)
+returns c = c .stop .ensures ∙ ends-short _ _ (omega arith)
 
 shared-slice-read-wide : tie.Need-shared-slice-read-wide
 shared-slice-read-wide c = search needs
@@ -37,8 +41,11 @@ wide-requires-3 c κs = search needs
 add-stated-2 : tie.Need-add-stated-2
 add-stated-2 c = search needs
 
+stop-requires-2 : tie.Need-stop-requires-2
+stop-requires-2 c κs = search needs
+
 returns-2 : tie.Need-returns-2
-returns-2 c = ends-differs _ _ (omega arith) (λ e. omega (arith, stated (c .before .before .before .before .before .before .before .before .before .args .s .now) (omega arith)))
+returns-2 c = c .stop2 .ensures ∙ ends-differs _ _ (omega arith) (λ e. omega (arith, stated (c .before .before .before .before .before .before .before .before .before .before .args .s .now) (omega arith)))
 
 check-opcodes-requires : tie.Need-check-opcodes-requires
 check-opcodes-requires c κs =
@@ -52,6 +59,7 @@ pub check-spec : {M : Type 1} → statement M
 check-spec =
     tie.close
     (tie.spec
+    stop-requires
     returns
     shared-slice-read-wide
     wide-requires
@@ -63,6 +71,7 @@ check-spec =
     shared-slice-read-wide-3
     wide-requires-3
     add-stated-2
+    stop-requires-2
     returns-2
     check-opcodes-requires
     returns-3)

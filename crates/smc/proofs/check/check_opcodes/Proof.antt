@@ -1,5 +1,5 @@
 use Prim.Native.Nat.{_-_}
-use mathlib.Core.Path.{_≡_, refl}
+use mathlib.Core.Path.{_≡_, refl, _∙_}
 use native.Mathlib.Omega.{arith}
 use lib.ListN.{length}
 use borrow.Author.Needs.{needs}
@@ -26,11 +26,14 @@ reach-table-requires c κs = search needs
 loop-holds : tie.Need-loop-holds Inv-loop μ-loop
 loop-holds c = (refl, (c .before .before .spans .ensures, c .before .times-table .ensures, c .reach-table .ensures), begins _ _ (omega arith) (c .before .before .before .before .pre .1 .0))
 
+stop-requires : tie.Need-stop-requires Inv-loop μ-loop
+stop-requires c κs = search needs
+
 returns : tie.Need-returns Inv-loop μ-loop
 returns c =
-    let a = c .before .before .before .before .before .before .before .args in
-    let g = c .before .before .loop .inv .2 in
-    ends-remain (a .blocks) (a .s .now) _ _ _ g (omega arith) (omega arith)
+    let a = c .before .before .before .before .before .before .before .before .args in
+    let g = c .before .before .before .loop .inv .2 in
+    c .stop .ensures ∙ ends-remain (a .blocks) (a .s .now) _ _ _ g (omega arith) (omega arith)
 
 opcode-requires : tie.Need-opcode-requires Inv-loop μ-loop
 opcode-requires c κs =
@@ -40,11 +43,14 @@ opcode-requires c κs =
 enum-known-head : tie.Need-enum-known-head Inv-loop μ-loop
 enum-known-head c = search needs
 
+stop-requires-2 : tie.Need-stop-requires-2 Inv-loop μ-loop
+stop-requires-2 c κs = search needs
+
 returns-2 : tie.Need-returns-2 Inv-loop μ-loop
 returns-2 c =
-    let a = c .before .before .before .before .before .before .before .before .before .before .before .before .before .before .args in
-    let g = c .before .before .before .before .before .before .before .before .before .loop .inv .2 in
-    goes-bad (a .blocks) (a .s .now) _ _ _ g (omega arith) (omega arith) _ (told-bad (a .blocks) (a .s .now) _ _ _ _ _ (c .before .head .given .1) (c .before .before .before .opcode .ensures))
+    let a = c .before .before .before .before .before .before .before .before .before .before .before .before .before .before .before .args in
+    let g = c .before .before .before .before .before .before .before .before .before .before .loop .inv .2 in
+    c .stop2 .ensures ∙ goes-bad (a .blocks) (a .s .now) _ _ _ g (omega arith) (omega arith) _ (told-bad (a .blocks) (a .s .now) _ _ _ _ _ (c .before .before .head .given .1) (c .before .before .before .before .opcode .ensures))
 
 enum-known-head-2 : tie.Need-enum-known-head-2 Inv-loop μ-loop
 enum-known-head-2 c = search needs
@@ -80,17 +86,23 @@ loop-again c =
     let t = told-runs (a .blocks) (a .s .now) _ _ _ _ _ _ _ (c .before .before .head2 .given .1) (c .before .before .before .before .opcode .ensures) in
     (c .before .before .before .before .before .before .before .before .before .before .loop .inv .0, c .before .before .before .before .before .before .before .before .before .before .loop .inv .1, rw (c .grown .ensures) (goes-on (a .blocks) (a .s .now) _ _ _ g (omega arith) (omega arith) _ _ _ t))
 
+stop-requires-3 : tie.Need-stop-requires-3 Inv-loop μ-loop
+stop-requires-3 c κs = search needs
+
 returns-3 : tie.Need-returns-3 Inv-loop μ-loop
 returns-3 c =
-    let a = c .before .before .before .before .before .before .before .args in
-    let g = c .before .before .loop .inv .2 in
-    ends-follow (a .blocks) (a .s .now) _ _ _ g (omega arith) (omega arith)
+    let a = c .before .before .before .before .before .before .before .before .args in
+    let g = c .before .before .before .loop .inv .2 in
+    c .stop3 .ensures ∙ ends-follow (a .blocks) (a .s .now) _ _ _ g (omega arith) (omega arith)
+
+stop-requires-4 : tie.Need-stop-requires-4 Inv-loop μ-loop
+stop-requires-4 c κs = search needs
 
 returns-4 : tie.Need-returns-4 Inv-loop μ-loop
 returns-4 c =
-    let a = c .before .before .before .before .before .before .before .args in
-    let g = c .before .before .loop .inv .2 in
-    ends-ok (a .blocks) (a .s .now) _ _ _ g (omega arith) (omega arith)
+    let a = c .before .before .before .before .before .before .before .before .args in
+    let g = c .before .before .before .loop .inv .2 in
+    c .stop4 .ensures ∙ ends-ok (a .blocks) (a .s .now) _ _ _ g (omega arith) (omega arith)
 
 pub check-opcodes-spec : {M : Type 1} → statement M
 check-opcodes-spec =
@@ -102,14 +114,18 @@ check-opcodes-spec =
     times-table-requires
     reach-table-requires
     loop-holds
+    stop-requires
     returns
     opcode-requires
     enum-known-head
+    stop-requires-2
     returns-2
     enum-known-head-2
     grown-requires
     add-k
     loop-less
     loop-again
+    stop-requires-3
     returns-3
+    stop-requires-4
     returns-4)
