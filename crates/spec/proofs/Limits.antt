@@ -1,6 +1,7 @@
 -- What an allowed size is good for, and the checks that come first. Assumes nothing.
 use Prim.Native.Nat.{ℕ, _*_, _/_, _%_, _<_, _≤_}
 use mathlib.Core.Path.{_≡_, refl}
+use mathlib.Core.Logic.{_≢_}
 use mathlib.Core.Bool.{Bool, true, false, _&&_, and-eq-true-iff}
 use native.Mathlib.Nat.{mul-le-mul, mul-pos}
 use native.Mathlib.Omega.{arith}
@@ -92,6 +93,16 @@ fault-length z t a e = rw (a, e)
 pub fault-none : (z : Size) (t : Bool) → allowed z ≡ true → t ≡ true → fault z t ≡ ok
 unfolding fault if
 fault-none z t a e = rw (a, e)
+
+-- where one of them is given
+pub by-fault : (P : ℕ → Type 0) (z : Size) (t : Bool) → fault z t ≢ ok → P badSize → P badLength → P (fault z t)
+unfolding fault if
+by-fault P z t = by (allowed z) t
+  where
+    by : (a t : Bool) → let e = if a (if t ok badLength) badSize in e ≢ ok → P badSize → P badLength → P e
+    by true true h p q = absurd (h refl)
+    by true false h p q = q
+    by false t h p q = p
 
 -- the other way round
 pub no-fault-both : (z : Size) (t : Bool) → fault z t ≡ ok → (allowed z ≡ true) × (t ≡ true)

@@ -3,7 +3,7 @@ use Prim.Native.Nat.{ℕ, _+_, _≤_}
 use mathlib.Core.Path.{_≡_, refl, sym, ap, _∙_}
 use mathlib.Core.Logic.{_≢_}
 use mathlib.Core.List.{List, [], _∷_, map, map-map}
-use mathlib.Core.Bool.{Bool, true, false}
+use mathlib.Core.Bool.{Bool}
 use native.Mathlib.Nat.{zero-add}
 use native.Mathlib.Omega.{arith}
 use lib.Dec.{eqb}
@@ -14,11 +14,12 @@ use Rattle.spec.specs.declared.Size.{Size}
 use Rattle.spec.specs.declared.SizeNumbers.{SizeNumbers}
 use Rattle.spec.specs.declared.SizeNumbers.the-variants.{Broken, Sized}
 use Rattle.spec.specs.Basics.{if, Every, none, also}
-use Rattle.spec.specs.Answers.{ok, badSize, badLength, answerAt, answer}
-use Rattle.spec.specs.Sizes.{allowed, fault}
+use Rattle.spec.specs.Answers.{ok, answerAt, answer}
+use Rattle.spec.specs.Sizes.{fault}
 use Rattle.spec.specs.Boards.{Board, Left, left, exact, read, inTurn}
 use Rattle.spec.specs.Feeds.{sizeNumbers, withChunks, feedOf, Chunks, chunksFrom, numberAccepted, Reply, reply, ended, readAll, walkChunks, walkFeed, walk, chunksOf, walkRun}
 use Rattle.spec.proofs.Lists.{by-number, checked-along, checked-refused}
+use Rattle.spec.proofs.Limits.{by-fault}
 use Rattle.spec.proofs.Varints.{badly, short, cut-refused, numbered}
 use Rattle.spec.proofs.Feeds.{Ends, whole, cut, ends-chunks}
 use Rattle.spec.proofs.Runs.{laterChunks, chunks-behind, AtEnd, used-up}
@@ -85,13 +86,8 @@ behind-ending p n at k (cut badly) = refl
 behind-ending p n at k (cut short) = refl
 
 behind-fault : (p : ℕ) (z : Size) (t : Bool) → fault z t ≢ ok → behind p (answer (fault z t) 0) ≡ answer (fault z t) 0
-unfolding fault if
-behind-fault p z t = by (allowed z) t
-  where
-    by : (a t : Bool) → let n = if a (if t ok badLength) badSize in n ≢ ok → behind p (answer n 0) ≡ answer n 0
-    by true true h = absurd (h refl)
-    by true false h = refl
-    by false t h = refl
+unfolding if
+behind-fault p z t h = by-fault (λ e. behind p (answer e 0) ≡ answer e 0) z t h refl refl
 
 pub size-then-run : SizeThenRun
 unfolding walk walkRun feedOf

@@ -1,9 +1,9 @@
 -- The block in every answer, by where the answer comes from: 1 and 2, a chunk, the end of a walk, a write. Assumes nothing.
 use Prim.Native.Nat.{ℕ}
-use mathlib.Core.Path.{_≡_, refl, subst⁻¹}
+use mathlib.Core.Path.{_≡_, subst⁻¹}
 use mathlib.Core.Logic.{_≢_}
 use mathlib.Core.List.{List, [], _∷_, map}
-use mathlib.Core.Bool.{Bool, true, false}
+use mathlib.Core.Bool.{Bool, true}
 use native.Mathlib.Omega.{arith}
 use lib.ListN.{length}
 use Rattle.spec.specs.declared.Answer.{Answer}
@@ -15,7 +15,7 @@ use Rattle.spec.specs.Boards.{Board, Left, exact, read, inTurn}
 use Rattle.spec.specs.Writing.{Wrote, emit, write}
 use Rattle.spec.specs.Feeds.{feedOf, chunksFrom, Reply, ended, walkChunks, walk, walkRun}
 use Rattle.spec.proofs.Lists.{by-test, by-number}
-use Rattle.spec.proofs.Limits.{allowed-size, no-fault-both, blocks-allowed}
+use Rattle.spec.proofs.Limits.{allowed-size, by-fault, no-fault-both, blocks-allowed}
 use Rattle.spec.proofs.Varints.{Cut, badly, short, numbered}
 use Rattle.spec.proofs.Refused.{stopped}
 use Rattle.spec.proofs.Feeds.{Ends, whole, cut, ends-chunks}
@@ -23,13 +23,9 @@ use Rattle.trust.specs.Stops.{AllStopped, Stops}
 
 -- 1 and 2
 stopped-fault : (n : ℕ) (z : Size) (t : Bool) → fault z t ≢ ok → Stopped n (answer (fault z t) 0)
-unfolding fault if
-stopped-fault n z t = by (allowed z) t
-  where
-    by : (a t : Bool) → let e = if a (if t ok badLength) badSize in e ≢ ok → Stopped n (answer e 0)
-    by true true h = absurd (h refl)
-    by true false h = before {number = badLength} (omega arith) (omega arith)
-    by false t h = before {number = badSize} (omega arith) (omega arith)
+stopped-fault n z t h =
+    by-fault (λ e. Stopped n (answer e 0)) z t h
+    (before {number = badSize} (omega arith) (omega arith)) (before {number = badLength} (omega arith) (omega arith))
 
 -- 12 and 13
 stopped-cut : {n e p : ℕ} → Cut e → Stopped n (answer e p)
