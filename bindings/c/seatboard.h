@@ -51,11 +51,13 @@ extern "C" {
 /* The numbers that a call answers with, and the place that comes with each. Places count bytes from 0 at the chunk's
  * first byte, and for a walk's own 0, 12 and 13 at the feed's or the run's. They are looked for in this order: 1, 2, 3,
  * 4, then opcode by opcode, 11 last. Of a symbol: 1, 2, 15, 16, 17, then row by row 18 and 19, 20 last.
+ * Padding, one to three bytes after a chunk's last block that are all zero, is accepted. It counts in the length that the
+ * chunk states, in the one that a feed or run has before it, and in the place of 0.
  * The block that comes with each: the number of blocks for 0 and 11; for 5 to 10 the first block still waiting at that
  * place, which is how many had their turn before it; 0 for the others, and for fresh map, count and symbol. */
 enum {
-    SEATBOARD_OK = 0,              /* accepted; the place is the length of the chunk, feed or run read, or of the chunk
-                                      written, and 0 for fresh map, count and symbol */
+    SEATBOARD_OK = 0,              /* accepted; the place is the length of the chunk, feed or run read, padding included,
+                                      or of the chunk written, and 0 for fresh map, count and symbol */
     SEATBOARD_BAD_SIZE = 1,        /* width or height not allowed; 0 */
     SEATBOARD_BAD_LENGTH = 2,      /* a lent picture or map is not of the exact length; 0 */
     SEATBOARD_CHUNK_SHORT = 3,     /* chunk under 4 bytes; 0 */
@@ -66,7 +68,8 @@ enum {
     SEATBOARD_NONE_BEFORE = 8,     /* a copy with no such block before; that opcode */
     SEATBOARD_PAST_LAST_BLOCK = 9, /* an opcode runs past the last block; that opcode */
     SEATBOARD_ENTRY_EMPTY = 10,    /* a table's entry that was not filled in this chunk; that opcode */
-    SEATBOARD_BYTES_FOLLOW = 11,   /* bytes follow the last block; the first such byte */
+    SEATBOARD_BYTES_FOLLOW = 11,   /* bytes follow the last block that are not padding: four or more, or one that is not
+                                      zero; the first byte after the last block */
     SEATBOARD_BAD_VARINT = 12,     /* a number of the feed or run is badly formed; that number */
     SEATBOARD_FEED_CUT = 13,       /* the feed or run ends inside a number or a chunk; the number, or the chunk's first
                                       byte */
@@ -112,9 +115,9 @@ struct seatboard_count seatboard_count(struct seatboard_size size, const uint16_
 struct seatboard_answer seatboard_read_chunk(struct seatboard_size size, const uint8_t *chunk, size_t chunk_length,
                                              uint8_t *picture, size_t picture_length, uint16_t *map, size_t map_length);
 
-/* Writes the chunk that makes the new picture out of the old one to the start of the output, and leaves the rest of the
- * output as it was. SEATBOARD_LONGEST_CHUNK bytes always suffice; with fewer the chunk is measured first, which takes
- * about as long again. Answers 0, 1, 2 or 14. */
+/* Writes the chunk that makes the new picture out of the old one to the start of the output, without padding, and leaves
+ * the rest of the output as it was. SEATBOARD_LONGEST_CHUNK bytes always suffice; with fewer the chunk is measured
+ * first, which takes about as long again. Answers 0, 1, 2 or 14. */
 struct seatboard_answer seatboard_write_chunk(struct seatboard_size size, const uint8_t *old_picture, size_t old_length,
                                               const uint8_t *new_picture, size_t new_length, uint8_t *output,
                                               size_t output_length);

@@ -16,6 +16,7 @@ typedef struct seatboard_answer Answer;
 typedef struct seatboard_tally Tally;
 
 static struct board start, twin; /* the board that a call is given, and another to try the like on */
+static struct board bare;        /* what a chunk without padding leaves */
 static uint8_t outputs[2][MOST], wanted[MOST], feed_made[MOST];
 static int stamps[2][MAX_PIXELS];
 
@@ -179,6 +180,13 @@ static unsigned chunk_refusal(const struct board *board, const uint8_t *chunk, s
     return stated == length ? 0 : SEATBOARD_LENGTH_DIFFERS;
 }
 
+/* Bytes after the last block that are accepted. */
+static bool padding(const uint8_t *bytes, size_t length)
+{
+    static const uint8_t zeros[3];
+    return length <= sizeof zeros && memcmp(bytes, zeros, length) == 0;
+}
+
 /* Can this number be given at this place, with that opcode there? */
 static bool place_promised(Answer said, const uint8_t *chunk, size_t length)
 {
@@ -191,7 +199,7 @@ static bool place_promised(Answer said, const uint8_t *chunk, size_t length)
     case SEATBOARD_OPCODE_UNKNOWN: return upper == 0xF;
     case SEATBOARD_NONE_BEFORE: return 2 <= upper && upper <= 5;
     case SEATBOARD_ENTRY_EMPTY: return upper == 9 || upper == 0xB || upper == 0xD;
-    case SEATBOARD_BYTES_FOLLOW: return said.place > 4;
+    case SEATBOARD_BYTES_FOLLOW: return said.place > 4 && !padding(chunk + said.place, length - said.place);
     default: return upper != 0xF;
     }
 }
@@ -225,6 +233,45 @@ static void promise_block(const struct board *board, Answer said, const uint8_t 
     state_length(feed_made, at);
     copy_board(&twin, &start);
     PROMISE(call_read(&twin, feed_made, at).number == 0);
+}
+
+/* The first bytes of a chunk, and a tail behind them, read over the board that the call was given. The buffers are the
+ * twin's own: where they are touched is looked at elsewhere. */
+static Answer read_with(const uint8_t *chunk, size_t end, const uint8_t *tail, size_t length)
+{
+    memcpy(feed_made, chunk, end);
+    memcpy(feed_made + end, tail, length);
+    state_length(feed_made, end + length);
+    copy_board(&twin, &start);
+    return seatboard_read_chunk(twin.size, feed_made, end + length, twin.picture, twin.pixels, twin.map, twin.blocks);
+}
+
+/* Where the last block of a chunk that was accepted ends: a byte that is not zero tells, behind it. */
+static size_t end_of(const uint8_t *chunk, size_t length)
+{
+    Answer said = read_with(chunk, length, (const uint8_t[]){0xFF}, 1);
+    PROMISE(same_answer(said, answered(SEATBOARD_BYTES_FOLLOW, said.place, start.blocks)));
+    PROMISE(4 < said.place && said.place <= length && padding(chunk + said.place, length - said.place));
+    return said.place;
+}
+
+/* Of a chunk that ends here with its last block: what may follow that, and what may not. */
+static void promise_padding(const uint8_t *chunk, size_t end)
+{
+    const Answer refused = answered(SEATBOARD_BYTES_FOLLOW, end, start.blocks);
+    for (size_t zeros = 0; zeros <= 4; zeros++) {
+        Answer said = read_with(chunk, end, (const uint8_t[4]){0}, zeros);
+        if (zeros == 0)
+            copy_board(&bare, &twin);
+        PROMISE(same_answer(said, zeros < 4 ? answered(0, end + zeros, start.blocks) : refused));
+        PROMISE(same_board(&twin, zeros < 4 ? &bare : &start));
+    }
+    for (size_t place = 0; place < 3; place++) {
+        uint8_t tail[3] = {0};
+        tail[place] = (uint8_t)(1 << (end + place) % 8);
+        Answer said = read_with(chunk, end, tail, 3 - end % (3 - place)); /* behind that byte up to two zeros */
+        PROMISE(same_answer(said, refused) && same_board(&twin, &start));
+    }
 }
 
 static Answer call_walk(struct board *board, const uint8_t *feed, size_t length);
@@ -297,8 +344,13 @@ void try_read(struct board *board, const uint8_t *chunk, size_t length)
     if (board_refusal(board))
         return;
     promise_alone(board, said, chunk, length);
-    if (said.number == 0)
-        promise_origins(board, chunk, length);
+    if (said.number == SEATBOARD_BYTES_FOLLOW)
+        promise_padding(chunk, said.place);
+    if (said.number != 0)
+        return;
+    promise_origins(board, chunk, length);
+    promise_padding(chunk, end_of(chunk, length));
+    PROMISE(same_board(&bare, board));
 }
 
 /* ---- walking ---- */
@@ -457,12 +509,13 @@ static size_t room_of(unsigned kind, size_t chunk, size_t longest)
     }
 }
 
-/* A written chunk is read with 0 over the old picture, gives the new one, settles what differs and nothing else. */
+/* A written chunk is read with 0 over the old picture, gives the new one, settles what differs and nothing else. It has
+ * no padding. */
 static void read_back(struct board *board, const struct wish *wish, const uint8_t *chunk, size_t length)
 {
     copy_board(&start, board);
     memcpy(wanted, wish->picture, wish->pixels); /* an overlapping one changes with the board */
-    PROMISE(chunk[0] == 0xE1);
+    PROMISE(chunk[0] == 0xE1 && end_of(chunk, length) == length);
     PROMISE(same_answer(call_read(board, chunk, length), answered(0, length, board->blocks)));
     PROMISE(memcmp(board->picture, wanted, wish->pixels) == 0);
     for (size_t k = 0; k < board->blocks; k++) {
@@ -626,6 +679,7 @@ void try_longest_chunks(void)
     for (size_t length = bound - 1; length < bound + 8; length++) {
         uint8_t *chunk = pages + room - length, *feed = chunk - 6;
         const uint8_t number[] = {1, 1, 0xFF, 0xFF, 0xFF, 7}; /* 4 by 4 pixels, bound - 1 bytes */
+        /* a block is kept; zeros follow, too many for padding */
         const uint8_t head[] = {0xE1, (uint8_t)(length >> 16), (uint8_t)(length >> 8), (uint8_t)length, 0};
         memcpy(feed, number, sizeof number);
         memcpy(chunk, head, sizeof head);

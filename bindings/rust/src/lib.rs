@@ -68,7 +68,8 @@ impl Size {
 #[derive(Clone, Copy, Debug, PartialEq, Eq)]
 #[non_exhaustive]
 pub struct Accepted {
-    /// The length of the chunk, feed or run that was read, or of the chunk that was written.
+    /// The length of the chunk, feed or run that was read, padding included, or of the chunk that
+    /// was written.
     pub length: usize,
     /// The number of blocks. In a chunk that was read or written each of them has had its turn.
     pub block: usize,
@@ -124,7 +125,8 @@ pub enum Reason {
     PastLastBlock = 9,
     /// A table's entry that was not filled in this chunk.
     EntryEmpty = 10,
-    /// Bytes follow the last block.
+    /// Bytes follow the last block that are not padding: four or more, or one that is not zero. The
+    /// place is that of the first byte after the last block.
     BytesFollow = 11,
     /// A number of the feed or run is badly formed.
     BadVarint = 12,
@@ -190,7 +192,7 @@ impl Display for Reason {
             Reason::NoneBefore => "copy with no such block before",
             Reason::PastLastBlock => "opcode runs past the last block",
             Reason::EntryEmpty => "entry not filled in this chunk",
-            Reason::BytesFollow => "bytes follow the last block",
+            Reason::BytesFollow => "bytes follow the last block that are not padding",
             Reason::BadVarint => "feed number badly formed",
             Reason::FeedCut => "feed ends inside a number or a chunk",
             Reason::OutputShort => "output too short",
@@ -232,7 +234,8 @@ pub fn count_unsettled(size: Size, map: &[u16]) -> Result<usize, Refused> {
     accepted(count.answer).map(|_| count.unsettled)
 }
 
-/// Reads a chunk over a picture and its map: checked whole before anything is painted.
+/// Reads a chunk over a picture and its map: checked whole before anything is painted. One to three
+/// bytes after its last block are padding, and accepted, if all are zero.
 pub fn read_chunk(
     size: Size,
     chunk: &[u8],

@@ -79,7 +79,7 @@ fn a_refused_chunk_says_which_block() {
         (&[0xE1, 0, 0, 6, 0x00, 0x40], Reason::NoneBefore, 5, 1),
         (&[0xE1, 0, 0, 6, 0x02, 0x05], Reason::PastLastBlock, 5, 3),
         (&[0xE1, 0, 0, 7, 0x02, 0xB0, 0], Reason::EntryEmpty, 5, 3),
-        (&[0xE1, 0, 0, 7, 0x02, 0x04, 0], Reason::BytesFollow, 6, 8),
+        (&[0xE1, 0, 0, 7, 0x02, 0x04, 1], Reason::BytesFollow, 6, 8),
     ];
     for (chunk, reason, place, block) in cases {
         assert_eq!(read_refused(EIGHT, chunk), (reason, place, block));
@@ -100,6 +100,50 @@ fn what_is_accepted_says_how_many_blocks() {
     assert_eq!((accepted(ran.end), ran.accepted), ((12, 8), 1));
     let written = seatboard::write_chunk(EIGHT, &picture, &[9; 128], &mut [0; 6]);
     assert_eq!(accepted(written), (6, 8));
+}
+
+/// Two blocks of colour 5, and these bytes after the last one.
+fn fives_then(more: &[u8]) -> Vec<u8> {
+    let mut chunk = [&[0xE1, 0, 0, 0, 0x61, 5], more].concat();
+    chunk[3] = chunk.len() as u8;
+    chunk
+}
+
+#[test]
+fn up_to_three_zeros_after_the_last_block_are_padding() {
+    for padding in 0..=3 {
+        let (mut picture, mut map) = ([0; 32], [0, 1]);
+        let chunk = fives_then(&vec![0; padding]);
+        let read = seatboard::read_chunk(SIZE, &chunk, &mut picture, &mut map);
+        assert_eq!(accepted(read), (6 + padding, 2));
+        assert_eq!((picture, map), ([5; 32], [65_535; 2]));
+        let run = [&[chunk.len() as u8], &chunk[..]].concat();
+        let length = run.len();
+        assert_eq!(walk_run(SIZE, &run), ((0, length, 2), 1, 5, [65_535; 2]));
+        let feed = [&[2, 1], &run[..]].concat();
+        let walked = seatboard::walk_feed(&feed, &mut picture, &mut map);
+        assert_eq!(accepted(walked), (2 + length, 2));
+    }
+}
+
+#[test]
+fn other_bytes_after_the_last_block_are_refused() {
+    let others: [&[u8]; 8] = [
+        &[0; 4],
+        &[0; 5],
+        &[1],
+        &[0, 1],
+        &[0, 0, 0x80],
+        &[0x10, 0, 0],
+        &[0, 1, 0],
+        &[0, 0, 0, 1],
+    ];
+    for more in others {
+        let chunk = fives_then(more);
+        assert_eq!(read_refused(SIZE, &chunk), (Reason::BytesFollow, 6, 2));
+        let run = [&[chunk.len() as u8], &chunk[..]].concat();
+        assert_eq!(walk_run(SIZE, &run), ((0, run.len(), 2), 0, 0, [0, 1]));
+    }
 }
 
 #[test]

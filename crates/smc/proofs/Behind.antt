@@ -2,18 +2,18 @@
 use Prim.Native.Nat.{ℕ, _+_, _*_, _<_, _≤_}
 use mathlib.Core.Path.{_≡_, refl, sym, subst, _∙_}
 use mathlib.Core.List.{List}
-use mathlib.Core.Bool.{and-false}
+use mathlib.Core.Bool.{true, false}
 use native.Mathlib.Omega.{arith}
 use lib.Dec.{eqb}
-use lib.ListN.{length, getD}
+use lib.ListN.{length, getD, drop}
 use borrow.Author.Tests.{lt-ltb, le-ltb, eq-eqb, ne-eqb}
 use Rattle.spec.specs.Basics.{if, part}
 use Rattle.spec.specs.Answers.{ok, chunkShort, lengthDiffers, blocksRemain, bytesFollow, answerAt, answer}
 use Rattle.spec.specs.Flags.{number}
 use Rattle.spec.specs.Chunks as Chunks
-use Rattle.spec.specs.Chunks.{kindOf, once, each, bodyAt, opcode, act, step, State, start, extend, stored, refused, accepted, finish, resume, loop, decode, verdict}
+use Rattle.spec.specs.Chunks.{kindOf, once, each, bodyAt, opcode, act, step, State, start, extend, stored, refused, accepted, padding, resume, loop, decode, verdict}
 use Rattle.spec.proofs.Lists.{by-test}
-use Rattle.spec.proofs.Loops.{unroll, unroll-end, loop-accepts}
+use Rattle.spec.proofs.Loops.{unroll, loop-remains, loop-accepts, loop-follows}
 use Rattle.spec.proofs.Made.{length-extend}
 use Rattle.spec.proofs.Parts.{part-listed}
 use Rattle.spec.proofs.Sound.{Checked, good, checked-head}
@@ -116,26 +116,20 @@ module _ (n : ℕ) (s : List ℕ) where
         }
 
     pub ends-remain : k < n → length s ≤ at → answerAt blocksRemain (length s) k ≡ verdict s (decode n s)
-    unfolding finish if
     ends-remain a b =
         let d : decode n s ≡ refused (answerAt blocksRemain (length s) k) =
-        g .same
-        ∙ unroll-end n s (length s) (g .st) (rw (le-ltb (g .st .at) (length s) (omega (arith, g .ats)), and-false))
-        ∙ rw (lt-ltb (length (g .st .made)) n (omega (arith, g .ks)), g .ks) in
+        g .same ∙ loop-remains n s (length s) (g .st) (omega (arith, g .ks)) (omega (arith, g .ats)) ∙ rw (g .ks) in
         rw d
 
-    pub ends-follow : n ≤ k → at < length s → answerAt bytesFollow at n ≡ verdict s (decode n s)
-    unfolding finish if
-    ends-follow a b =
+    pub ends-follow : n ≤ k → padding (drop at s) ≡ false → answerAt bytesFollow at n ≡ verdict s (decode n s)
+    ends-follow a e =
         let d : decode n s ≡ refused (answerAt bytesFollow at n) =
-        g .same
-        ∙ unroll-end n s (length s) (g .st) (rw (le-ltb (length (g .st .made)) n (omega (arith, g .ks))))
-        ∙ rw (le-ltb (length (g .st .made)) n (omega (arith, g .ks)), lt-ltb (g .st .at) (length s) (omega (arith, g .ats)), g .ats) in
+        g .same ∙ loop-follows n s (length s) (g .st) (omega (arith, g .ks)) (rw (sym (g .ats)) e) ∙ rw (g .ats) in
         rw d
 
-    pub ends-ok : n ≤ k → length s ≤ at → answerAt ok (length s) n ≡ verdict s (decode n s)
-    ends-ok a b =
-        let d : decode n s ≡ accepted (g .st .made) = g .same ∙ loop-accepts n s (length s) (g .st) (omega (arith, g .ks)) (omega (arith, g .ats)) in
+    pub ends-ok : n ≤ k → padding (drop at s) ≡ true → answerAt ok (length s) n ≡ verdict s (decode n s)
+    ends-ok a e =
+        let d : decode n s ≡ accepted (g .st .made) = g .same ∙ loop-accepts n s (length s) (g .st) (omega (arith, g .ks)) (rw (sym (g .ats)) e) in
         let all : n ≡ length (g .st .made) = omega (arith, g .most, g .ks) in
         rw (d, all)
 

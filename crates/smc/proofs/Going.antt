@@ -2,21 +2,20 @@
 use Prim.Native.Nat.{ℕ, _*_, _<_, _≤_}
 use mathlib.Core.Path.{_≡_, refl, sym, subst, _∙_}
 use mathlib.Core.List.{List}
-use mathlib.Core.Bool.{Bool, true, false, not, and-false}
+use mathlib.Core.Bool.{Bool, true, false, not}
 use native.Mathlib.Decide.{decLt}
 use native.Mathlib.Omega.{arith}
 use lib.Dec.{eqb, ltb}
-use lib.ListN.{length, getD}
-use borrow.Author.Tests.{le-ltb, lt-ltb}
+use lib.ListN.{length, getD, drop}
 use Rattle.spec.specs.declared.Answer.{Answer}
 use Rattle.spec.specs.Basics.{if, part}
-use Rattle.spec.specs.Answers.{chunkShort, lengthDiffers, blocksRemain, bytesFollow, answerAt, answer}
+use Rattle.spec.specs.Answers.{chunkShort, lengthDiffers, bytesFollow, answerAt, answer}
 use Rattle.spec.specs.Flags.{number}
 use Rattle.spec.specs.Maps.{remap}
 use Rattle.spec.specs.Pictures.{paint}
-use Rattle.spec.specs.Chunks.{Head, fills, missing, upperAt, countAt, bodyAt, opcode, act, step, State, start, emptied, Outcome, refused, accepted, finish, resume, loop, decode}
+use Rattle.spec.specs.Chunks.{Head, fills, missing, upperAt, countAt, bodyAt, opcode, act, step, State, start, emptied, Outcome, refused, accepted, padding, resume, loop, decode}
 use Rattle.spec.proofs.Heads.{Known, bad, good, known-head, body-after}
-use Rattle.spec.proofs.Loops.{unroll, unroll-end}
+use Rattle.spec.proofs.Loops.{unroll, loop-remains, loop-full}
 use Rattle.spec.proofs.Made.{length-extend}
 use Rattle.spec.proofs.SoFar.{soFar-all, paint-none, remap-none}
 use Rattle.smc.specs.Painting.{Accepts, originsOf, Lent, kindAt, blocksAt, Room, after, Inside, Turned}
@@ -47,14 +46,11 @@ pub record Opens (n : ℕ) (s : List ℕ) (at k : ℕ) (st : State) : Type 0 whe
 
 module _ (n : ℕ) (s : List ℕ) (g : Accepts (decode n s)) (st : State) (same : decode n s ≡ loop (length s) n s st) where
   inside-bytes : length (st .made) < n → st .at < length s
-  unfolding finish if
   inside-bytes l = by (decLt (st .at) (length s))
     where
       by : Dec (st .at < length s) → st .at < length s
       by (yes h) = h
-      by (no h) =
-          absurd (never (decode n s) g (answerAt blocksRemain (length s) (length (st .made)))
-          (same ∙ unroll-end n s (length s) st (rw (le-ltb (st .at) (length s) (omega arith), and-false)) ∙ rw (lt-ltb (length (st .made)) n l)))
+      by (no h) = absurd (never (decode n s) g _ (same ∙ loop-remains n s (length s) st l (omega arith)))
 
   moves : {x : Head} → st .at < length s → Known n s (length (st .made)) (fills (st .tables)) (upperAt s (st .at)) (countAt s (st .at)) (bodyAt s (st .at)) x
       → decode n s ≡ resume (λ st′. loop (length s) n s st′) st (act s st x) → Opens n s (st .at) (length (st .made)) st
@@ -73,11 +69,9 @@ module _ (n : ℕ) (s : List ℕ) (g : Accepts (decode n s)) (st : State) (same 
       moves h (known-head n s (st .at) (length (st .made)) (fills (st .tables))) (same ∙ unroll n s (length s) st (omega arith) l h)
 
   ended : n ≤ length (st .made) → decode n s ≡ accepted (st .made)
-  unfolding finish if
   ended l =
-      let e : decode n s ≡ if (ltb (st .at) (length s)) (refused (answerAt bytesFollow (st .at) n)) (accepted (st .made)) =
-      same ∙ unroll-end n s (length s) st (rw (le-ltb (length (st .made)) n l)) ∙ rw (le-ltb (length (st .made)) n l) in
-      e ∙ passed (ltb (st .at) (length s)) (answerAt bytesFollow (st .at) n) (accepted (st .made)) (subst Accepts e g)
+      let e = same ∙ loop-full n s (length s) st l in
+      e ∙ passed (not (padding (drop (st .at) s))) (answerAt bytesFollow (st .at) n) (accepted (st .made)) (subst Accepts e g)
 
 -- the loop stands inside a state from which `decode` goes on
 pub record Going (c r : ℕ) (s pic₀ map₀ : List ℕ) (at k : ℕ) (l₁ : List ℕ) (n₁ : ℕ) (l₂ : List ℕ) (n₂ : ℕ) (l₃ : List ℕ) (n₃ : ℕ) (pic m : List ℕ) : Type 0 where

@@ -5,11 +5,11 @@ use crate::spans;
 use spec::Answer;
 ghost use mathlib.Core.Path.{_≡_};
 ghost use Prim.Native.Nat.{_+_, _^_, _≤_, _<_};
-ghost use lib.ListN.{length, getD};
+ghost use lib.ListN.{length, getD, drop};
 ghost use Rattle.spec.specs.Answers.{answerAt};
 ghost use Rattle.spec.specs.Basics.{part};
 ghost use Rattle.spec.specs.Flags.{number};
-ghost use Rattle.spec.specs.Chunks.{kindOf, times, reach, once, missing, opcode, decode, verdict};
+ghost use Rattle.spec.specs.Chunks.{kindOf, times, reach, once, missing, padding, opcode, decode, verdict};
 ghost use Rattle.smc.specs.Checking.{Spans, Times, Reaches, Stands, Ends, bumped, grown, fillsOf, Tells};
 
 // What the upper half-byte of an opcode asks for, 0 to F: blocks to a count, blocks that must stand before, bytes that come once.
@@ -203,6 +203,28 @@ fn opcode(
     whole(times, reach, blocks, s, at, k, f, span)
 }
 
+// The most bytes that may stand after the last block.
+const MAX_PADDING: usize = 3;
+
+// Whether the bytes from s[at] on are padding: no more than that, and all zero.
+fn padding(s: &[u8], at: usize) -> bool
+    requires { ⌜ at ≤ length (now s) ⌝ }
+    ensures { λ r. ⌜ r ≡ padding (drop at (now (s .entry))) ⌝ }
+{
+    let len = s.len();
+    if len - at > MAX_PADDING {
+        return false;
+    }
+    let mut i = at;
+    while i < len {
+        if s[i] != 0 {
+            return false;
+        }
+        i += 1;
+    }
+    true
+}
+
 // Where the check stops: with a number, at a place and a block.
 fn stop(number: u8, place: usize, block: usize) -> Answer
     ensures { λ r. ⌜ r ≡ answerAt number place block ⌝ }
@@ -247,10 +269,10 @@ fn check_opcodes(blocks: usize, s: &[u8]) -> Answer
             }
         }
     }
-    if at < len {
-        return stop(Answer::BYTES_FOLLOW, at, blocks);
+    if padding(s, at) {
+        return stop(Answer::OK, len, blocks);
     }
-    stop(Answer::OK, len, blocks)
+    stop(Answer::BYTES_FOLLOW, at, blocks)
 }
 
 // The answer to a chunk for a picture of so many blocks.

@@ -20,6 +20,7 @@ pub mod Colours
 pub mod Written
 pub mod Cells
 pub mod Varints
+pub mod Padding
 pub mod Loops
 pub mod Feeds
 pub mod Runs

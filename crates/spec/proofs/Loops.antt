@@ -2,13 +2,14 @@
 use Prim.Native.Nat.{ℕ, suc, _+_, _-_, _*_, _<_, _≤_}
 use mathlib.Core.Path.{_≡_, refl, _∙_}
 use mathlib.Core.List.{List}
-use mathlib.Core.Bool.{true, false, and-false, and-eq-true-iff}
+use mathlib.Core.Bool.{true, false, not, and-false, and-eq-true-iff}
 use native.Mathlib.Omega.{arith}
-use lib.ListN.{length}
+use lib.ListN.{length, drop}
 use lib.Dec.{ltb}
 use borrow.Author.Tests.{ltb-true, lt-ltb, le-ltb}
 use Rattle.spec.specs.Basics.{if}
-use Rattle.spec.specs.Chunks.{State, Step, stop, go, Outcome, accepted, step, finish, resume, goesOn, loop, Head, act, fills, once, each}
+use Rattle.spec.specs.Answers.{blocksRemain, bytesFollow, answerAt}
+use Rattle.spec.specs.Chunks.{State, Step, stop, go, Outcome, refused, accepted, step, padding, finish, resume, goesOn, loop, Head, act, fills, once, each}
 use Rattle.spec.proofs.Fuel.{fuel-end, fuel-enough, fuel-turn}
 use Rattle.spec.proofs.Sound.{Checked, good, checked-head}
 
@@ -58,12 +59,26 @@ module _ (n : ℕ) (s : List ℕ) where
   unroll fuel st h l m =
       fuel-turn _ _ _ bytesLeft done less fuel st (omega arith) (rw (lt-ltb (length (st .made)) n l, lt-ltb (st .at) (length s) m))
 
-  pub unroll-end : (fuel : ℕ) (st : State) → goesOn n s st ≡ false → loop fuel n s st ≡ finish n s st
+  unroll-end : (fuel : ℕ) (st : State) → goesOn n s st ≡ false → loop fuel n s st ≡ finish n s st
   unfolding loop
   unroll-end fuel st e = fuel-end _ _ _ fuel st e
 
-  -- all blocks made, and no byte left
-  pub loop-accepts : (fuel : ℕ) (st : State) → n ≤ length (st .made) → length s ≤ st .at → loop fuel n s st ≡ accepted (st .made)
+  -- no byte is left, and blocks remain
+  pub loop-remains : (fuel : ℕ) (st : State) → length (st .made) < n → length s ≤ st .at
+      → loop fuel n s st ≡ refused (answerAt blocksRemain (length s) (length (st .made)))
   unfolding finish if
-  loop-accepts fuel st h g =
-      unroll-end fuel st (rw (le-ltb (length (st .made)) n h)) ∙ rw (le-ltb (length (st .made)) n h, le-ltb (st .at) (length s) g)
+  loop-remains fuel st l h = unroll-end fuel st (rw (le-ltb (st .at) (length s) h, and-false)) ∙ rw (lt-ltb (length (st .made)) n l)
+
+  -- all blocks made: the bytes behind them decide
+  module _ (fuel : ℕ) (st : State) (h : n ≤ length (st .made)) where
+    pub loop-full : loop fuel n s st ≡ if (not (padding (drop (st .at) s))) (refused (answerAt bytesFollow (st .at) n)) (accepted (st .made))
+    unfolding finish if
+    loop-full = unroll-end fuel st (rw (le-ltb (length (st .made)) n h)) ∙ rw (le-ltb (length (st .made)) n h)
+
+    pub loop-accepts : padding (drop (st .at) s) ≡ true → loop fuel n s st ≡ accepted (st .made)
+    unfolding if
+    loop-accepts e = loop-full ∙ rw e
+
+    pub loop-follows : padding (drop (st .at) s) ≡ false → loop fuel n s st ≡ refused (answerAt bytesFollow (st .at) n)
+    unfolding if
+    loop-follows e = loop-full ∙ rw e

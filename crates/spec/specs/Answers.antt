@@ -46,7 +46,7 @@ pastLastBlock = 9
 abbrev pub entryEmpty : ℕ
 entryEmpty = 10
 
--- bytes follow the last block
+-- bytes follow the last block, and are no padding
 abbrev pub bytesFollow : ℕ
 bytesFollow = 11
 

@@ -4,9 +4,9 @@ use Prim.Native.Nat.{ℕ, zero, suc, _+_, _-_, _*_, _/_, _%_, _^_}
 use mathlib.Core.List.{List, [], _∷_, _++_, map}
 use mathlib.Core.Bool.{Bool, false, not, _&&_}
 use lib.Dec.{leb, ltb, eqb}
-use lib.ListN.{length, getD, set, replicate}
+use lib.ListN.{length, getD, set, replicate, drop}
 use Rattle.spec.specs.declared.Answer.{Answer}
-use Rattle.spec.specs.Basics.{if, fuelled, from, part}
+use Rattle.spec.specs.Basics.{if, fuelled, from, part, same}
 use Rattle.spec.specs.Answers.{ok, chunkShort, lengthDiffers, blocksRemain, opcodeCut, opcodeUnknown, noneBefore, pastLastBlock, entryEmpty, bytesFollow, answerAt, answer}
 use Rattle.spec.specs.Pictures.{Origin, given, held}
 use Rattle.spec.specs.Flags.{number, flags, chosen}
@@ -202,11 +202,19 @@ pub data Outcome : Type 0 where
   refused : Answer → Outcome
   accepted : List Origin → Outcome
 
+-- What may stand after the last block. 01 says "bytes follow the last block" of any byte there; this is corrected (docs/DECISIONS.md): up to
+-- three bytes, all of them zero, are padding, and only others get 11
+abbrev pub maxPadding : ℕ
+maxPadding = 3
+
+unfoldable pub padding : List ℕ → Bool
+padding bs = leb (length bs) maxPadding && same bs (replicate (length bs) 0)
+
 -- no opcode is left to read: "bytes end before an opcode, blocks remain" (5), "11 is looked for last", or all is well
 unfoldable pub finish : ℕ → List ℕ → State → Outcome
 finish n s st =
     if (ltb (length (st .made)) n) (refused (answerAt blocksRemain (length s) (length (st .made))))
-    (if (ltb (st .at) (length s)) (refused (answerAt bytesFollow (st .at) n)) (accepted (st .made)))
+    (if (not (padding (drop (st .at) s))) (refused (answerAt bytesFollow (st .at) n)) (accepted (st .made)))
 
 -- a refusal at the place and the block of its opcode, which the state stands before; or what `onward` makes of the next state
 abbrev pub resume : (State → Outcome) → State → Step → Outcome
@@ -226,7 +234,7 @@ decode n s =
     if (ltb (length s) 4) (refused (answer chunkShort 0))
     (if (not (eqb (number 256 (part s 1 3)) (length s))) (refused (answer lengthDiffers 0)) (loop (length s) n s start))
 
--- the answer to a chunk: for an accepted one the "length used", and the number of blocks, which have an origin each
+-- the answer to a chunk: for an accepted one the "length used", padding included, and the number of blocks, which have an origin each
 abbrev pub verdict : List ℕ → Outcome → Answer
 verdict s (refused a) = a
 verdict s (accepted os) = answerAt ok (length s) (length os)

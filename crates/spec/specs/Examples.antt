@@ -146,7 +146,18 @@ further =
     ∷ refuses 16 4 (chunk (0x10 ∷ 0x02 ∷ 0x60 ∷ [])) 6 6 3
     ∷ refuses 16 4 (chunk (0x00 ∷ 0x81 ∷ 0x01 ∷ 0x02 ∷ 0x00 ∷ 0x00 ∷ 0x00 ∷ [])) 6 5 1
     ∷ refuses 24 4 (chunk (0x60 ∷ 0x05 ∷ 0x60 ∷ 0x06 ∷ 0x40 ∷ 0xF0 ∷ [])) 7 9 4
-    ∷ refuses 12 4 (chunk (0x02 ∷ 0x00 ∷ [])) 11 5 3
+    ∷ refuses 12 4 (chunk (0x02 ∷ 0x01 ∷ [])) 11 5 3
+    -- padding: the example with which 01 was corrected; one zero byte, and two
+    ∷ reads 4 4 (of 16 9) (0xE1 ∷ 0x00 ∷ 0x00 ∷ 0x08 ∷ 0x00 ∷ 0x00 ∷ 0x00 ∷ 0x00 ∷ []) 0 8 1 (of 16 9) (0 ∷ [])
+    ∷ reads 8 4 (of 32 0) (chunk (0x61 ∷ 0x05 ∷ 0x00 ∷ [])) 0 7 2 (of 32 5) (of 2 settled)
+    ∷ reads 8 4 (of 32 0) (chunk (0x61 ∷ 0x05 ∷ 0x00 ∷ 0x00 ∷ [])) 0 8 2 (of 32 5) (of 2 settled)
+    -- four zero bytes, and five; two or three of which the last, the first or the one between is not zero. All at the first
+    ∷ refuses 4 4 (chunk (0x00 ∷ of 4 0x00)) 11 5 1
+    ∷ refuses 4 4 (chunk (0x00 ∷ of 5 0x00)) 11 5 1
+    ∷ refuses 4 4 (chunk (0x00 ∷ 0x00 ∷ 0x80 ∷ [])) 11 5 1
+    ∷ refuses 4 4 (chunk (0x00 ∷ 0x00 ∷ 0x00 ∷ 0x10 ∷ [])) 11 5 1
+    ∷ refuses 4 4 (chunk (0x00 ∷ 0x01 ∷ 0x00 ∷ 0x00 ∷ [])) 11 5 1
+    ∷ refuses 4 4 (chunk (0x00 ∷ 0x00 ∷ 0xFF ∷ 0x00 ∷ [])) 11 5 1
     -- a chunk of three bytes; the stated length's highest byte; lengths: where size and lengths are right, an empty chunk gets 3 and an empty output 14
     ∷ refuses 4 4 (0xE1 ∷ 0x00 ∷ 0x03 ∷ []) 3 0 0
     ∷ refuses 4 4 (0xE1 ∷ 0x01 ∷ 0x00 ∷ 0x05 ∷ 0x00 ∷ []) 4 0 0
@@ -183,6 +194,9 @@ further =
     (reply (answerAt 0 6 2 ∷ []) (answerAt 13 10 0) ∷ []) (of 32 5) (of 2 settled) 0
     ∷ sequence 8 4 (of 32 9) (walking (0x51 ∷ 0x32 ∷ []) ∷ walking (0x03 ∷ 0x01 ∷ 0x05 ∷ 0xE1 ∷ 0x00 ∷ 0x00 ∷ 0x05 ∷ 0x02 ∷ []) ∷ walking (0x02 ∷ 0x80 ∷ []) ∷ [])
     (reply [] (answerAt 1 0 0) ∷ reply [] (answerAt 2 0 0) ∷ reply [] (answerAt 13 1 0) ∷ []) (of 32 9) (0 ∷ 1 ∷ []) 2
+    -- a padded chunk in a feed: the next one's number stands behind the padding
+    ∷ sequence 8 4 (of 32 9) (walking (0x02 ∷ 0x01 ∷ 0x09 ∷ chunk (0x61 ∷ 0x05 ∷ of 3 0x00) ++ 0x06 ∷ chunk (0x00 ∷ 0x20 ∷ [])) ∷ [])
+    (reply (answerAt 0 9 2 ∷ answerAt 0 6 2 ∷ []) (answerAt 0 19 2) ∷ []) (of 32 5) (of 2 settled) 0
     -- feed numbers that fail: each size number, before the size is looked at, and a chunk's length
     ∷ sequence 8 4 (of 32 9) (walking (0x80 ∷ 0x00 ∷ 0x01 ∷ []) ∷ walking (0x51 ∷ []) ∷ walking (0x02 ∷ 0x01 ∷ 0x80 ∷ 0x00 ∷ []) ∷ walking (0x02 ∷ 0x01 ∷ 0x80 ∷ []) ∷ [])
     (reply [] (answerAt 12 0 0) ∷ reply [] (answerAt 13 1 0) ∷ reply [] (answerAt 12 2 0) ∷ reply [] (answerAt 13 2 0) ∷ []) (of 32 9) (0 ∷ 1 ∷ []) 2

@@ -100,7 +100,7 @@ placesOf (c ∷ cs) = c .numberAt ∷ c .first ∷ c .past ∷ placesOf cs
 unfoldable pub holds : Row → Bool
 unfolding if fuelled checked Sizes.side Sizes.blocksIn Sizes.fault Pictures.place Pictures.blockOf Pictures.pixelOf Pictures.shown Pictures.paint
     remap freshMap countMap Flags.digits Flags.upper24 Flags.lower24 Flags.flags Flags.octetBytes Flags.flagBytes
-    Chunks.put Chunks.missing Chunks.body Chunks.countAt Chunks.bodyAt Chunks.opcode Chunks.blocksBy Chunks.extend Chunks.stored Chunks.step Chunks.finish Chunks.loop Chunks.decode
+    Chunks.put Chunks.missing Chunks.body Chunks.countAt Chunks.bodyAt Chunks.opcode Chunks.blocksBy Chunks.extend Chunks.stored Chunks.step Chunks.padding Chunks.finish Chunks.loop Chunks.decode
     read inTurn Writing.insert Writing.colours Writing.entries Writing.entryOf Writing.tabled Writing.single Writing.counting Writing.plain
     Writing.opcodeFor Writing.alike Writing.opcodes Writing.encode Writing.difference Writing.differences Writing.emit Writing.write
     Feeds.groups Feeds.varintAt Feeds.nextAt Feeds.chunksFrom Feeds.sizeNumbers Feeds.feedOf Feeds.walk Feeds.walkRun call

@@ -32,7 +32,7 @@ impl Answer {
     pub const PAST_LAST_BLOCK: u8 = 9;
     // entry not filled in this chunk
     pub const ENTRY_EMPTY: u8 = 10;
-    // bytes follow the last block
+    // bytes follow the last block, and are no padding
     pub const BYTES_FOLLOW: u8 = 11;
     // feed number badly formed
     pub const BAD_VARINT: u8 = 12;

@@ -22,6 +22,7 @@ use Rattle.spec.proofs.Limits.{allowed-size, area}
 use Rattle.spec.proofs.Blocks.{shown-at, shown-same, length-paint, painted, equal-by-blocks}
 use Rattle.spec.proofs.Boards.{read-exact}
 use Rattle.spec.proofs.Loops.{unroll, loop-accepts}
+use Rattle.spec.proofs.Padding.{padding-none}
 use Rattle.spec.proofs.Digits.{length-digits}
 use Rattle.spec.proofs.Numbers.{number-digits}
 use Rattle.spec.proofs.Written.{alike-room, alike-alone, writable-first, writable-rest, opcode-some, length-encode, encode-most, length-differences, differences-writable}
@@ -64,7 +65,7 @@ module _ (n : ℕ) (s : List ℕ) where
   reads-on [] (suc j) k pre st w e a l b c = absurd (omega arith)
   reads-on [] zero k pre st w e a l b c =
       let len = simp length-append at (ap length e) in
-      loop-accepts n s (length s) st (omega arith) (omega arith) ∙ ap accepted (sym (append-nil (st .made)))
+      loop-accepts n s (length s) st (omega arith) (padding-none s (st .at) (omega arith)) ∙ ap accepted (sym (append-nil (st .made)))
   reads-on (x ∷ xs) (suc j) k pre st w e a l b c = reads-on xs j (suc k) pre st (writable-rest w) e a (omega arith) (omega arith) (omega arith)
   reads-on (x ∷ xs) zero k pre st w e a l b c =
       let m = alike x (maxRun - 1) xs in

@@ -3,26 +3,22 @@
 
 use seatboard::Size;
 
-use crate::compare::{Codec, Outcome};
-use crate::examples::{answer, equal, fresh, lent_board, lent_picture, read_over, Said};
-use crate::generate::{self, Board, FULL, SETTLED};
-use crate::replay::bytes_in_short;
+use crate::compare::Codec;
+use crate::examples::{check_read, chunk_of, fresh, lent_board, lent_picture, size, Said};
+use crate::generate::{Board, FULL, SETTLED};
 
-struct Example {
-    size: Size,
-    chunk: Vec<u8>,
-    says: Said,
+pub struct Example {
+    pub size: Size,
+    pub opcodes: Vec<u8>,
+    pub says: Said,
 }
 
-/// The chunk is stated as long as it is.
-fn refused(size: Size, opcodes: &[u8], says: Said) -> Example {
-    let mut chunk = [&[0xE1, 0, 0, 0], opcodes].concat();
-    generate::state_length(&mut chunk);
-    Example { size, chunk, says }
-}
-
-const fn size(width: usize, height: usize) -> Size {
-    Size { width, height }
+pub fn refused(size: Size, opcodes: &[u8], says: Said) -> Example {
+    Example {
+        size,
+        opcodes: opcodes.to_vec(),
+        says,
+    }
 }
 
 /// 24 blocks.
@@ -30,7 +26,7 @@ const LENT: Size = size(24, 16);
 
 /// Opcodes, and how many blocks have had their turn after them.
 #[rustfmt::skip]
-const LEADS: [(&[u8], usize); 16] = [
+pub const LEADS: [(&[u8], usize); 16] = [
     (&[0x02], 3),
     (&[0x1F, 3], 4),
     (&[0x00, 0x22], 4),
@@ -101,7 +97,7 @@ fn behind_leads() -> Vec<Example> {
             .collect();
         // All the others kept, and a byte after them.
         let kept = (LENT.blocks() - blocks - 1) as u8;
-        examples.push(at(&[0x10, kept, 0], (11, place + 2, 24)));
+        examples.push(at(&[0x10, kept, 1], (11, place + 2, 24)));
         examples
     };
     LEADS.into_iter().flat_map(behind).collect()
@@ -133,29 +129,37 @@ fn last_blocks() -> Vec<Example> {
         refused(four, &[0x02, 0x90, 0], (10, 5, 3)),
         refused(four, &[0x00, 0x60, 5, 0x23], (9, 7, 2)),
         refused(four, &[0x01, 0x41], (9, 5, 2)),
-        refused(four, &[0x01, 0x40, 0x00], (11, 6, 4)),
+        refused(four, &[0x01, 0x40, 0x10, 0], (11, 6, 4)),
         refused(four, &[0x80, 1, 2, 0, 0, 0x91, 0, 0, 0, 0], (6, 9, 1)),
     ]
 }
 
 /// Bytes after the last block, at several sizes.
 fn sizes() -> Vec<Example> {
-    let all = [&[0x10, 255].repeat(15)[..], &[0x10, 159, 0x00]].concat();
+    let all = [&keep(4_000)[..], &[0xAA]].concat();
     vec![
         refused(size(4, 4), &[0x00, 0xAA], (11, 5, 1)),
-        refused(size(8, 4), &[0x01, 0x00], (11, 5, 2)),
-        refused(size(4, 8), &[0x00, 0x00, 0x00], (11, 6, 2)),
+        refused(size(8, 4), &[0x01, 0x01], (11, 5, 2)),
+        refused(size(4, 8), &[0x00, 0x00, 0xAA], (11, 6, 2)),
         refused(size(320, 4), &[0x10, 79, 0xF0], (11, 6, 80)),
         refused(size(4, 200), &[0x10, 49, 0xF0], (11, 6, 50)),
         refused(FULL, &all, (11, 36, 4_000)),
     ]
 }
 
+/// So many blocks kept, in the longest runs.
+pub fn keep(blocks: usize) -> Vec<u8> {
+    let mut opcodes = [0x10, 255].repeat(blocks / 256);
+    if let Some(rest) = (blocks % 256).checked_sub(1) {
+        opcodes.extend([0x10, rest as u8]);
+    }
+    opcodes
+}
+
 /// Blocks that 8 bits cannot tell, up to the last of all.
 fn far_blocks() -> Vec<Example> {
-    let to_the_last = [&[0x10, 255].repeat(15)[..], &[0x10, 158]].concat();
     let last = |rest: &[u8], number| {
-        let opcodes = [&to_the_last, rest].concat();
+        let opcodes = [&keep(3_999), rest].concat();
         refused(FULL, &opcodes, (number, 36, 3_999))
     };
     vec![
@@ -170,31 +174,42 @@ fn far_blocks() -> Vec<Example> {
     ]
 }
 
-pub fn check(codec: &Codec) -> Result<(), String> {
-    let groups = [
+pub fn all() -> Vec<Example> {
+    [
         behind_leads(),
         none_before(),
         last_blocks(),
         sizes(),
         far_blocks(),
-    ];
-    groups
+    ]
+    .into_iter()
+    .flatten()
+    .collect()
+}
+
+pub fn check(codec: &Codec) -> Result<(), String> {
+    all()
         .iter()
-        .flatten()
         .try_for_each(|example| check_chunk(codec, example))?;
     check_lengths(codec)
 }
 
 /// Over two boards: neither picture nor map has a say in it.
-fn check_chunk(codec: &Codec, Example { size, chunk, says }: &Example) -> Result<(), String> {
+pub fn check_chunk(codec: &Codec, example: &Example) -> Result<(), String> {
+    let Example {
+        size,
+        opcodes,
+        says,
+    } = example;
+    let chunk = &chunk_of(opcodes);
     let lent = lent_board(*size);
     let settled = Board {
         size: *size,
         picture: lent.picture.iter().map(|pixel| !pixel).collect(),
         map: vec![SETTLED; size.blocks()],
     };
-    check_over(codec, &lent, chunk, *says)?;
-    check_over(codec, &settled, chunk, *says)
+    check_read(codec, [&lent; 2], chunk, *says)?;
+    check_read(codec, [&settled; 2], chunk, *says)
 }
 
 /// Lengths that do not fit, whatever the chunk: it would be accepted, or stop at block 1.
@@ -205,16 +220,8 @@ fn check_lengths(codec: &Codec) -> Result<(), String> {
             picture: lent_picture(pixels),
             map: fresh(entries),
         };
-        check_over(codec, &board, &[0xE1, 0, 0, 5, 0x01], (2, 0, 0))?;
-        check_over(codec, &board, &[0xE1, 0, 0, 5, 0x00], (2, 0, 0))?;
+        check_read(codec, [&board; 2], &[0xE1, 0, 0, 5, 0x01], (2, 0, 0))?;
+        check_read(codec, [&board; 2], &[0xE1, 0, 0, 5, 0x00], (2, 0, 0))?;
     }
     Ok(())
-}
-
-fn check_over(codec: &Codec, board: &Board, chunk: &[u8], says: Said) -> Result<(), String> {
-    let found = read_over(board, codec, chunk);
-    let expected = Outcome::of(board, |_, _| answer(says));
-    equal(&found, &expected, || {
-        format!("chunk {} at {:?}", bytes_in_short(chunk), board.size)
-    })
 }

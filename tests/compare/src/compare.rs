@@ -6,7 +6,7 @@ use std::hint::black_box;
 
 use seatboard::exact::{self, Answer, Count, Tally};
 use seatboard::Size;
-use second::reader::{self, pixel_blocks, At, Refusal, Step};
+use second::reader::{self, pixel_blocks, At, Reading, Refusal};
 use second::sprite::{self, Frame};
 use second::walk::{self, ChunkRead, Walk};
 use second::writer::{self, Chunk};
@@ -283,8 +283,8 @@ const NAMES: [&str; 2] = ["ours", "second reader's"];
 pub struct Comparison {
     pub differences: Vec<String>,
     pub answer: Answer,
-    /// None of a refused chunk.
-    pub steps: Vec<Step>,
+    /// Empty of a refused chunk.
+    pub reading: Reading,
 }
 
 pub fn read_chunk(Case { board, chunk }: &Case) -> Comparison {
@@ -292,17 +292,17 @@ pub fn read_chunk(Case { board, chunk }: &Case) -> Comparison {
     let ours = Outcome::of(board, |picture, map| {
         (LIBRARY.read_chunk)(size, chunk, picture, map)
     });
-    let mut steps = Vec::new();
+    let mut reading = Reading::default();
     let theirs = Outcome::of(board, |picture, map| {
-        let reading = reader::read_chunk((size.width, size.height), chunk, picture, map);
-        let answer = answer(&reading, At::end(chunk.len(), map));
-        steps = reading.unwrap_or_default();
+        let read = reader::read_chunk((size.width, size.height), chunk, picture, map);
+        let answer = answer(&read, At::end(chunk.len(), map));
+        reading = read.unwrap_or_default();
         answer
     });
     Comparison {
         differences: ours.differences(&theirs, NAMES),
         answer: theirs.answer,
-        steps,
+        reading,
     }
 }
 

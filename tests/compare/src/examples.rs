@@ -1,4 +1,5 @@
-//! Paper 01's numbered examples that concern reading, with fresh map and count.
+//! Paper 01's numbered examples that concern reading, with fresh map and count, and the one that 02
+//! adds.
 
 use std::fmt::Debug;
 
@@ -6,7 +7,12 @@ use seatboard::exact::{Answer, Count};
 use seatboard::Size;
 
 use crate::compare::{Codec, Outcome};
-use crate::generate::{Board, SETTLED};
+use crate::generate::{self, Board, SETTLED};
+use crate::replay::bytes_in_short;
+
+pub const fn size(width: usize, height: usize) -> Size {
+    Size { width, height }
+}
 
 /// Number, place and block.
 pub type Said = (u8, usize, usize);
@@ -76,6 +82,8 @@ const TWO_FILLED: &[u8] = &[0xE1, 0, 0, 6, 0x61, 5];
 pub const LOWER_LEFT: &[u8] = &[0xE1, 0, 0, 9, 0x80, 3, 7, 0, 8];
 pub const LOWER_LEFT_PIXELS: [u8; 16] = [3, 3, 3, 3, 3, 3, 3, 3, 3, 3, 3, 3, 7, 3, 3, 3];
 const SKIPPED_COPIED: &[u8] = &[0xE1, 0, 0, 6, 0x00, 0x20];
+/// 02's, beside example 7.
+const PADDED: &[u8] = &[0xE1, 0, 0, 8, 0x00, 0, 0, 0];
 const TWO_REPEATED: &[u8] = &[0xE1, 0, 0, 9, 0x60, 1, 0x60, 2, 0x40];
 
 fn accepted_examples() -> Vec<Example> {
@@ -88,6 +96,7 @@ fn accepted_examples() -> Vec<Example> {
         accepted(1, (4, 4), HALF_BYTES, &HALF_BYTES_PIXELS, &settled[..1]),
         accepted(2, (8, 4), TWO_FILLED, &[5; 32], &settled[..2]),
         accepted(6, (4, 4), LOWER_LEFT, &LOWER_LEFT_PIXELS, &settled[..1]),
+        accepted(7, (4, 4), PADDED, &lent_picture(16), &[0]),
         accepted(11, (8, 4), SKIPPED_COPIED, &left_half_twice, &[0, 0]),
         accepted(15, (16, 4), TWO_REPEATED, &one_two_one_two, &settled),
     ]
@@ -154,17 +163,43 @@ pub fn left_board(lent: &Board, leaves: &Option<(Vec<u8>, Vec<u16>)>) -> Board {
 
 fn check_chunk(codec: &Codec, example: &Example) -> Result<(), String> {
     let (width, height) = example.size;
-    let lent = lent_board(Size { width, height });
+    let lent = lent_board(size(width, height));
     let left = left_board(&lent, &example.leaves);
-    let found = read_over(&lent, codec, example.chunk);
-    let expected = Outcome::of(&left, |_, _| answer(example.says));
-    equal(&found, &expected, || format!("example {}", example.number))
+    check_read(codec, [&lent, &left], example.chunk, example.says)
+        .map_err(|why| format!("example {}, {why}", example.number))
 }
 
-pub fn read_over(board: &Board, codec: &Codec, chunk: &[u8]) -> Outcome<Answer> {
-    Outcome::of(board, |picture, map| {
-        (codec.read_chunk)(board.size, chunk, picture, map)
+/// A chunk of these opcodes, stated as long as it is.
+pub fn chunk_of(opcodes: &[u8]) -> Vec<u8> {
+    let mut chunk = [&[0xE1, 0, 0, 0], opcodes].concat();
+    generate::state_length(&mut chunk);
+    chunk
+}
+
+/// What a chunk should answer over the first board, and leave of it.
+pub fn check_read(
+    codec: &Codec,
+    boards: [&Board; 2],
+    chunk: &[u8],
+    says: Said,
+) -> Result<(), String> {
+    let size = boards[0].size;
+    let read = |picture: &mut [u8], map: &mut [u16]| (codec.read_chunk)(size, chunk, picture, map);
+    check_call(boards, read, answer(says), || {
+        format!("chunk {} at {size:?}", bytes_in_short(chunk))
     })
+}
+
+/// The same of any call.
+pub fn check_call<A: Debug + PartialEq>(
+    [lent, left]: [&Board; 2],
+    call: impl FnOnce(&mut [u8], &mut [u16]) -> A,
+    says: A,
+    name: impl FnOnce() -> String,
+) -> Result<(), String> {
+    let found = Outcome::of(lent, call);
+    let expected = Outcome::of(left, |_, _| says);
+    without(found.differences(&expected, FOUND_AND_SAID), name)
 }
 
 /// A fresh map of that size and its count, each with the given number.
@@ -181,26 +216,20 @@ fn check_maps(
     } else {
         map_board(size, vec![SETTLED; entries])
     };
-    let found = Outcome::of(&lent, |_, map| (codec.fresh_map)(lent.size, map));
-    let expected = Outcome::of(&left, |_, _| number_alone(number));
-    equal(&found, &expected, || format!("fresh map of {size:?}"))?;
+    let make = |_: &mut [u8], map: &mut [u16]| (codec.fresh_map)(lent.size, map);
+    check_call([&lent, &left], make, number_alone(number), || {
+        format!("fresh map of {size:?}")
+    })?;
     let unsettled = if number == 0 { entries } else { 0 };
     check_count(codec, &left, number, unsettled)
 }
 
 fn check_count(codec: &Codec, board: &Board, number: u8, unsettled: usize) -> Result<(), String> {
-    let found = Outcome::of(board, |_, map| (codec.count)(board.size, map));
+    let count = |_: &mut [u8], map: &mut [u16]| (codec.count)(board.size, map);
     let answer = number_alone(number);
-    let expected = Outcome::of(board, |_, _| Count { answer, unsettled });
-    equal(&found, &expected, || format!("count of {:?}", board.size))
-}
-
-pub fn equal<A: Debug + PartialEq>(
-    found: &Outcome<A>,
-    expected: &Outcome<A>,
-    name: impl FnOnce() -> String,
-) -> Result<(), String> {
-    without(found.differences(expected, FOUND_AND_SAID), name)
+    check_call([board; 2], count, Count { answer, unsettled }, || {
+        format!("count of {:?}", board.size)
+    })
 }
 
 pub const FOUND_AND_SAID: [&str; 2] = ["it has", "should have"];
@@ -214,7 +243,7 @@ pub fn without(differences: Vec<String>, name: impl FnOnce() -> String) -> Resul
 
 fn map_board((width, height): (usize, usize), map: Vec<u16>) -> Board {
     Board {
-        size: Size { width, height },
+        size: size(width, height),
         picture: Vec::new(),
         map,
     }

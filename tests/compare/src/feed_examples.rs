@@ -3,9 +3,10 @@
 
 use seatboard::Size;
 
-use crate::compare::{Codec, Outcome};
-use crate::examples::{answer, equal, left_board, lent_board, lent_picture, Said};
-use crate::generate::{FULL, SETTLED};
+use crate::compare::Codec;
+use crate::examples::{answer, check_call, left_board, lent_board, lent_picture, Said};
+use crate::generate::{Board, FULL, SETTLED};
+use crate::replay::bytes_in_short;
 
 const LENT: Size = Size {
     width: 8,
@@ -84,6 +85,7 @@ fn whole_feeds() -> Vec<Example> {
         unchanged(&[2, 1, 0, 0], (0, 4, 2)),
         // The chunk's bytes are those of the feed's own length, whatever the chunk states.
         unchanged(&[2, 1, 7, 0xE1, 0, 0, 6, 0x61, 5, 0], (0, 10, 2)),
+        unchanged(&[2, 1, 6, 0xE1, 0, 0, 9, 0x61, 5, 0, 0, 0], (0, 12, 2)),
         changed(&one_after_other, (0, 17, 2), &[9; 32], settled),
         changed(&three_hundred, (0, 311, 2), &[5; 32], settled),
         changed(&upright, (0, 10, 2), &upper_half, [SETTLED, 1]),
@@ -154,6 +156,7 @@ fn cut_chunks() -> Vec<Example> {
     vec![
         unchanged(&[2, 1, 5], (13, 3, 0)),
         unchanged(&[2, 1, 5, 0xE1, 0, 0, 5], (13, 3, 0)),
+        unchanged(&[2, 1, 9, 0xE1, 0, 0, 9, 0x61, 5, 0, 0], (13, 3, 0)),
         unchanged(&[2, 1, 0xAC, 2, 0xE1], (13, 4, 0)),
         unchanged(&[2, 1, 0xFF, 0xFF, 0xFF, 7], (13, 6, 0)),
         unchanged(&[2, 1, 0, 5], (13, 4, 0)),
@@ -177,9 +180,18 @@ pub fn check(codec: &Codec) -> Result<(), String> {
 fn check_feed(codec: &Codec, example: &Example) -> Result<(), String> {
     let lent = lent_board(example.size);
     let left = left_board(&lent, &example.leaves);
-    let found = Outcome::of(&lent, |picture, map| {
-        (codec.walk_feed)(&example.feed, picture, map)
-    });
-    let expected = Outcome::of(&left, |_, _| answer(example.says));
-    equal(&found, &expected, || format!("feed {:02X?}", example.feed))
+    check_walk(codec, [&lent, &left], &example.feed, example.says)
+}
+
+/// What a feed should answer over the first board, and leave of it.
+pub fn check_walk(
+    codec: &Codec,
+    boards: [&Board; 2],
+    feed: &[u8],
+    says: Said,
+) -> Result<(), String> {
+    let walk = |picture: &mut [u8], map: &mut [u16]| (codec.walk_feed)(feed, picture, map);
+    check_call(boards, walk, answer(says), || {
+        format!("feed {}", bytes_in_short(feed))
+    })
 }

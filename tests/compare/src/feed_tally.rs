@@ -36,7 +36,8 @@ pub struct FeedTally {
     cut_numbers: [usize; 3],
     at_the_end: Things<3>,
     orders: Things<6>,
-    chunks: Things<7>,
+    chunks: Things<5>,
+    changes: Things<3>,
     /// Chunks that were read, by the groups of their lengths, and the accepted ones among them.
     groups: [usize; 4],
     accepted_groups: [usize; 4],
@@ -60,7 +61,8 @@ impl FeedTally {
         }
         self.at_the_end.add(at_the_end(case, compared));
         self.orders.add(orders(case, compared));
-        self.chunks.add(chunks(case, compared));
+        self.chunks.add(chunks(compared));
+        self.changes.add(changes(case, compared));
     }
 
     pub fn end_counts(&self) -> Counts {
@@ -86,7 +88,7 @@ impl FeedTally {
     }
 
     pub fn chunk_counts(&self) -> Counts {
-        self.chunks.counts()
+        [self.chunks.counts(), self.changes.counts()].concat()
     }
 
     /// Of long feeds: accepted chunks can have lengths of up to three groups.
@@ -149,16 +151,11 @@ fn orders(case: &FeedCase, compared: &FeedComparison) -> [Thing; 6] {
     ]
 }
 
-/// Which chunks the walk read, and whether they showed.
-fn chunks(case: &FeedCase, compared: &FeedComparison) -> [Thing; 7] {
+/// Which chunks the walk read.
+fn chunks(compared: &FeedComparison) -> [Thing; 5] {
     let (number, _) = compared.walk.number_and_at();
     let chunks = &compared.walk.chunks;
     let rises = |two: &[ChunkRead]| two[0].unsettled < two[1].unsettled;
-    let Size { width, height } = case.board.size;
-    let other_size = match leading_numbers(&case.feed).0[..] {
-        [across, down, ..] => (4 * across, 4 * down) != (width, height),
-        _ => false,
-    };
     [
         (
             "walks that got 0 without a chunk",
@@ -176,6 +173,22 @@ fn chunks(case: &FeedCase, compared: &FeedComparison) -> [Thing; 7] {
             "walks with a refused chunk between accepted ones",
             refused_between(chunks),
         ),
+        (
+            "walks with an accepted chunk after a padded one",
+            accepted_after_padded(chunks),
+        ),
+    ]
+}
+
+/// Whether they showed.
+fn changes(case: &FeedCase, compared: &FeedComparison) -> [Thing; 3] {
+    let (number, _) = compared.walk.number_and_at();
+    let Size { width, height } = case.board.size;
+    let other_size = match leading_numbers(&case.feed).0[..] {
+        [across, down, ..] => (4 * across, 4 * down) != (width, height),
+        _ => false,
+    };
+    [
         (
             "walks that changed the board and got 12",
             compared.changed && number == 12,
@@ -199,6 +212,12 @@ pub fn refused_between(chunks: &[ChunkRead]) -> bool {
         (Some(first), Some(last)) => !chunks[first..last].iter().all(accepted),
         _ => false,
     }
+}
+
+pub fn accepted_after_padded(chunks: &[ChunkRead]) -> bool {
+    let mut from_padded = chunks.iter().skip_while(|chunk| chunk.padding == 0);
+    from_padded.next();
+    from_padded.any(|chunk| chunk.number == 0)
 }
 
 /// The two size numbers and the first length, up to the first of them that is bad or cut, and the

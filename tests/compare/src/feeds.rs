@@ -64,7 +64,7 @@ pub fn long_cases(seed: u64) -> Vec<FeedCase> {
         .collect();
     let accepted_around = vec![
         generate::plain_chunk(random),
-        padded_chunk(random, FULL, FOUR_GROUPS),
+        overlong_chunk(random, FULL, FOUR_GROUPS),
         generate::valid_chunk(random, FULL),
     ];
     let block = Size {
@@ -76,7 +76,7 @@ pub fn long_cases(seed: u64) -> Vec<FeedCase> {
         .flat_map(|least| [least - 1, least])
         .chain([GREATEST]);
     let each_length = lengths
-        .flat_map(|length| [settling(random), padded_chunk(random, block, length)])
+        .flat_map(|length| [settling(random), overlong_chunk(random, block, length)])
         .collect();
     let mut cases = vec![
         whole_case(random, FULL, hundreds),
@@ -95,12 +95,13 @@ pub fn long_cases(seed: u64) -> Vec<FeedCase> {
 fn whole_case(random: &mut Random, size: Size, chunks: Vec<Vec<u8>>) -> FeedCase {
     FeedCase {
         board: generate::fitting_board(random, size),
-        feed: Parts::feed(in_blocks(size), chunks).parts.concat(),
+        feed: Parts::feed(in_blocks(size), chunks).bytes(),
     }
 }
 
-/// A valid chunk and random bytes after it, up to a length that the chunk states: refused.
-fn padded_chunk(random: &mut Random, size: Size, length: usize) -> Vec<u8> {
+/// A valid chunk and random bytes after it, too many for padding, up to a length that the chunk
+/// states: refused.
+fn overlong_chunk(random: &mut Random, size: Size, length: usize) -> Vec<u8> {
     let mut chunk = generate::valid_chunk(random, size);
     let more = length - chunk.len();
     chunk.extend(random.bytes(more));
@@ -245,6 +246,10 @@ impl Parts {
         }
     }
 
+    pub fn bytes(&self) -> Vec<u8> {
+        self.parts.concat()
+    }
+
     /// The bytes, as they should be or damaged.
     pub fn perhaps_damaged(mut self, random: &mut Random) -> Vec<u8> {
         match random.below(32) {
@@ -254,7 +259,7 @@ impl Parts {
             16 | 17 => self.misstate_length(random),
             _ => {}
         }
-        let mut bytes = self.parts.concat();
+        let mut bytes = self.bytes();
         if bytes.is_empty() {
             return bytes;
         }

@@ -205,7 +205,8 @@ pub fn any_chunk(random: &mut Random, size: Size) -> Vec<u8> {
         }
         1..=5 => noise(random),
         6..=9 => valid_then_wrong(random, blocks),
-        10..=17 => damaged(random, blocks),
+        10..=15 => damaged(random, blocks),
+        16..=18 => followed(random, blocks),
         _ => valid(random, blocks).chunk,
     }
 }
@@ -269,6 +270,23 @@ fn valid_then_wrong(random: &mut Random, blocks: usize) -> Vec<u8> {
     chunk
 }
 
+/// Valid, and after that up to five bytes: zeros, zeros but for one bit, or any. Now and then the
+/// chunk states its length without them.
+fn followed(random: &mut Random, blocks: usize) -> Vec<u8> {
+    let mut chunk = valid(random, blocks).chunk;
+    let mut more = vec![0; random.between(1, 5)];
+    match random.below(4) {
+        0 | 1 => {}
+        2 => flip_bit(random, &mut more),
+        _ => more = random.bytes(more.len()),
+    }
+    chunk.extend(more);
+    if !random.one_in(8) {
+        state_length(&mut chunk);
+    }
+    chunk
+}
+
 fn damaged(random: &mut Random, blocks: usize) -> Vec<u8> {
     let Built { mut chunk, opcodes } = valid(random, blocks);
     let opcode = random.pick(&opcodes);
@@ -310,8 +328,12 @@ fn damaged(random: &mut Random, blocks: usize) -> Vec<u8> {
 
 pub fn flip_bits(random: &mut Random, bytes: &mut [u8]) {
     for _ in 0..random.between(1, 3) {
-        bytes[random.below(bytes.len())] ^= 1 << random.below(8);
+        flip_bit(random, bytes);
     }
+}
+
+fn flip_bit(random: &mut Random, bytes: &mut [u8]) {
+    bytes[random.below(bytes.len())] ^= 1 << random.below(8);
 }
 
 struct Built {
@@ -399,9 +421,13 @@ impl<'a> Builder<'a> {
         }
     }
 
-    /// All blocks that are left, and the length stated.
+    /// All blocks that are left, now and then padding (02), and the length stated.
     fn finish(mut self) -> Built {
         self.extend_to(self.blocks);
+        if self.random.one_in(4) {
+            let padding = self.random.between(1, 3);
+            self.chunk.extend(vec![0; padding]);
+        }
         state_length(&mut self.chunk);
         Built {
             chunk: self.chunk,

@@ -1,13 +1,15 @@
 //! The board program beside 01: on cases written out by hand, and on random feeds beside the
 //! second listing.
 
-use second::listing;
+use seatboard::Size;
+use second::{listing, walk};
 
 use crate::feeds;
 use crate::program::{self, Handed};
 use crate::program_cases;
 use crate::report::Differing;
 use crate::tally::{Thing, Things};
+use crate::two_boards::own_board;
 
 pub const FEEDS: u64 = 1_000;
 
@@ -23,7 +25,7 @@ pub fn check_cases() -> Result<(), String> {
     differing.result(cases.len() as u64)
 }
 
-pub fn compare_random(seed: u64, things: &mut Things<10>) -> Result<(), String> {
+pub fn compare_random(seed: u64, things: &mut Things<11>) -> Result<(), String> {
     let mut differing = Differing::default();
     for number in 0..FEEDS {
         let feed = feeds::for_program(seed, number);
@@ -39,7 +41,7 @@ pub fn compare_random(seed: u64, things: &mut Things<10>) -> Result<(), String> 
 }
 
 /// What a listing has, so that a run which missed something says so.
-fn things_of(feed: &[u8], listing: &str) -> [Thing; 10] {
+fn things_of(feed: &[u8], listing: &str) -> [Thing; 11] {
     let length = feed.len();
     let too_large = listing == "too large\n";
     let board = listing.starts_with("board");
@@ -62,6 +64,7 @@ fn things_of(feed: &[u8], listing: &str) -> [Thing; 10] {
             "a chunk refused behind the first block",
             refused_behind(listing),
         ),
+        ("a padded chunk", board && padded(feed)),
     ]
 }
 
@@ -72,6 +75,16 @@ fn count_rises(listing: &str) -> bool {
 
 fn refused_behind(listing: &str) -> bool {
     rows(listing).any(|[_, number, .., block]| (5..=10).contains(&number) && block > 0)
+}
+
+/// As the second walk finds it, on a board of its own.
+fn padded(feed: &[u8]) -> bool {
+    let Ok(((width, height), _)) = walk::size(feed) else {
+        return false;
+    };
+    let (mut picture, mut map) = own_board(Size { width, height });
+    let walk = walk::walk(feed, &mut picture, &mut map);
+    walk.chunks.iter().any(|chunk| chunk.padding > 0)
 }
 
 /// Chunk, number, place, unsettled and block.

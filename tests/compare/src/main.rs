@@ -7,9 +7,9 @@
 //! pictures to write, symbols.rs symbols to paint from the files of sprites.rs, right and wrong;
 //! compare.rs gives each to both and compares the answer and all that was lent; tally.rs,
 //! feed_tally.rs, run_tally.rs, write_tally.rs and symbol_tally.rs count what they had in them;
-//! examples.rs, block_examples.rs, feed_examples.rs, run_examples.rs, write_examples.rs and
-//! symbol_examples.rs try both on paper 01's examples and on others made by hand, and drawings.rs on
-//! the symbols in examples/.
+//! examples.rs, block_examples.rs, padding_examples.rs, feed_examples.rs, run_examples.rs,
+//! write_examples.rs and symbol_examples.rs try both on paper 01's examples and on others made by
+//! hand, and drawings.rs on the symbols in examples/.
 //! Each chunk written is read back by both readers, and each run is also handed over chunk by chunk
 //! and behind size numbers. program.rs runs the board program, on the cases of program_cases.rs and
 //! on random feeds (listings.rs). sequences.rs makes sequences of calls, and two_boards.rs runs them.
@@ -36,6 +36,7 @@ mod feed_tally;
 mod feeds;
 mod generate;
 mod listings;
+mod padding_examples;
 mod pictures;
 mod program;
 mod program_cases;
@@ -115,6 +116,7 @@ fn main() -> ExitCode {
         listings::FEEDS
     );
     let mut report = Report::default();
+    check_read_examples(&mut report);
     check_reading(&options, &mut report);
     check_walks(&options, &mut report);
     check_runs(seed, &mut report);
@@ -130,15 +132,17 @@ fn main() -> ExitCode {
     }
 }
 
-fn check_reading(options: &Options, report: &mut Report) {
+fn check_read_examples(report: &mut Report) {
     report.check("second reader: half-bytes of an octet", half_bytes());
-    report.check("second reader: 01's examples", examples::check(&SECOND));
-    report.check("library: 01's examples", examples::check(&LIBRARY));
-    let examples = block_examples::check(&SECOND);
-    report.check("second reader: chunks stopped at a block", examples);
-    let examples = block_examples::check(&LIBRARY);
-    report.check("library: chunks stopped at a block", examples);
+    for (name, codec) in [("second reader", &SECOND), ("library", &LIBRARY)] {
+        let mut check = |what, result| report.check(&format!("{name}: {what}"), result);
+        check("01's examples", examples::check(codec));
+        check("chunks stopped at a block", block_examples::check(codec));
+        check("bytes after the last block", padding_examples::check(codec));
+    }
+}
 
+fn check_reading(options: &Options, report: &mut Report) {
     let Options { seed, chunks, .. } = *options;
     let mut tally = Tally::default();
     let cases = (0..chunks).map(|number| generate::case(seed, number));
@@ -154,6 +158,11 @@ fn check_reading(options: &Options, report: &mut Report) {
     report.check_counts("every table wrapped", ENOUGH, tally.wrap_counts());
     report.check_counts("longest runs", ENOUGH, tally.longest_run_counts());
     report.check_counts("copies", ENOUGH, tally.copy_counts());
+    report.check_counts(
+        "bytes after the last block",
+        ENOUGH,
+        tally.following_counts(),
+    );
 
     let mut numbers = Numbers::default();
     let compared = compare_maps(seed, &mut numbers);

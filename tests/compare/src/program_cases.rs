@@ -32,6 +32,7 @@ pub fn all() -> Vec<ProgramCase> {
         accepted_chunks(),
         refused_chunks(),
         blocks(),
+        padding(),
         longest_feeds(),
         too_long_feeds(),
         pixel_limit(),
@@ -135,6 +136,38 @@ fn blocks() -> Vec<ProgramCase> {
             "a block that 8 bits cannot tell",
             &[40, 25, 9, 0xE1, 0, 0, 9, 0x10, 255, 0x10, 254, 0xF0],
             "board 160 100\n1 7 8 1000 511\nend 0 12\n",
+        ),
+    ]
+}
+
+#[rustfmt::skip]
+fn padding() -> Vec<ProgramCase> {
+    vec![
+        case(
+            "one to three zeros after the last block",
+            &[
+                2, 1,
+                5, 0xE1, 0, 0, 5, 0x01,
+                6, 0xE1, 0, 0, 6, 0x01, 0,
+                8, 0xE1, 0, 0, 8, 0x00, 0x20, 0, 0,
+                8, 0xE1, 0, 0, 8, 0x01, 0, 0, 0,
+                9, 0xE1, 0, 0, 9, 0x61, 0, 0, 0, 0,
+            ],
+            "board 8 4\n1 0 5 2 2\n2 0 6 2 2\n3 0 8 2 2\n4 0 8 2 2\n5 0 9 0 2\nend 0 43\n",
+        ),
+        case(
+            "bytes after the last block that are no padding",
+            &[
+                2, 1,
+                9, 0xE1, 0, 0, 9, 0x01, 0, 0, 0, 0,
+                10, 0xE1, 0, 0, 10, 0x61, 0, 0, 0, 0, 0,
+                6, 0xE1, 0, 0, 6, 0x01, 1,
+                7, 0xE1, 0, 0, 7, 0x01, 0, 0x80,
+                8, 0xE1, 0, 0, 8, 0x01, 0, 0, 0x10,
+                9, 0xE1, 0, 0, 9, 0x00, 0x20, 0, 1, 0,
+            ],
+            "board 8 4\n1 11 5 2 2\n2 11 6 2 2\n3 11 5 2 2\n4 11 5 2 2\n5 11 5 2 2\n6 11 6 2 2\n\
+             end 0 57\n",
         ),
     ]
 }

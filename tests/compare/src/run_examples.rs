@@ -5,8 +5,10 @@ use std::iter;
 use seatboard::exact::Tally;
 use seatboard::Size;
 
-use crate::compare::{Codec, Outcome};
-use crate::examples::{answer, equal, fresh, left_board, lent_board, lent_picture, Said};
+use crate::compare::Codec;
+use crate::examples::{
+    answer, check_call, fresh, left_board, lent_board, lent_picture, size, Said,
+};
 use crate::feed_examples::{COPIED, FAILING, FIVES, HALF, LISTING, NINE};
 use crate::generate::{Board, SETTLED};
 use crate::replay::bytes_in_short;
@@ -18,10 +20,6 @@ const LENT: Size = size(8, 4);
 const KEPT: [u8; 6] = [5, 0xE1, 0, 0, 5, 0x01];
 const EMPTY: [u8; 1] = [0];
 const REFUSED: [u8; 6] = [5, 0xE1, 0, 0, 5, 0x21];
-
-const fn size(width: usize, height: usize) -> Size {
-    Size { width, height }
-}
 
 struct Example {
     case: RunCase,
@@ -88,10 +86,16 @@ fn whole_runs() -> Vec<Example> {
         // Accepted without a change, it counts all the same.
         unchanged(&KEPT, (0, 6, 2), 1),
         unchanged(&join(&[&KEPT, &REFUSED, &KEPT]), (0, 18, 2), 2),
-        // The chunk's bytes are those of the run's own length, whatever the chunk states.
-        unchanged(&[7, 0xE1, 0, 0, 6, 0x61, 5, 0], (0, 8, 2), 0),
         // 4x8 has buffers of the same lengths.
         upright,
+    ]
+}
+
+/// The chunk's bytes are those of the run's own length, whatever the chunk states.
+fn other_lengths() -> Vec<Example> {
+    vec![
+        unchanged(&[7, 0xE1, 0, 0, 6, 0x61, 5, 0], (0, 8, 2), 0),
+        unchanged(&[6, 0xE1, 0, 0, 9, 0x61, 5, 0, 0, 0], (0, 10, 2), 0),
     ]
 }
 
@@ -117,7 +121,7 @@ fn backlog() -> Example {
         &[0xE1, 0, 0, 7, 0x60, 1, 0xF6],
         &[0xE1, 0, 0, 7, 0x60, 1, 0x07],
         &[0xE1, 0, 0, 8, 0x60, 1, 0x90, 0],
-        &[0xE1, 0, 0, 7, 0x67, 1, 0x00],
+        &[0xE1, 0, 0, 7, 0x67, 1, 0x01],
     ];
     let mut example = unchanged(&[], (0, 0, 2), 0);
     let mut painted = [0; 8];
@@ -187,8 +191,9 @@ fn cut_chunks() -> Vec<Example> {
     vec![
         unchanged(&[1], (13, 1, 0), 0),
         unchanged(&[0, 1], (13, 2, 0), 0),
-        // What is there of it would be accepted.
+        // What is there of it would be accepted, and so would the next one with less padding.
         unchanged(&[7, 0xE1, 0, 0, 6, 0x61, 5], (13, 1, 0), 0),
+        unchanged(&[9, 0xE1, 0, 0, 9, 0x61, 5, 0, 0], (13, 1, 0), 0),
         unchanged(&[0xFF, 0xFF, 0xFF, 7], (13, 4, 0), 0),
         // In 16 bits the length would be 5.
         unchanged(&[0x85, 0x80, 4, 0xE1, 0, 0, 5, 0x01], (13, 3, 0), 0),
@@ -269,6 +274,7 @@ fn refused_boards() -> Vec<Example> {
 pub fn check(codec: &Codec) -> Result<(), String> {
     let groups = [
         whole_runs(),
+        other_lengths(),
         refused_behind(),
         vec![backlog()],
         many_chunks(),
@@ -286,14 +292,23 @@ pub fn check(codec: &Codec) -> Result<(), String> {
 fn check_run(codec: &Codec, example: &Example) -> Result<(), String> {
     let RunCase { board, run } = &example.case;
     let left = left_board(board, &example.leaves);
-    let found = Outcome::of(board, |picture, map| {
-        (codec.walk_run)(board.size, run, picture, map)
-    });
-    let expected = Outcome::of(&left, |_, _| Tally {
+    let tally = Tally {
         answer: answer(example.says),
         accepted: example.accepted,
-    });
-    equal(&found, &expected, || {
-        format!("run {} at {:?}", bytes_in_short(run), board.size)
+    };
+    check_walk(codec, [board, &left], run, tally)
+}
+
+/// What a run should tell over the first board, and leave of it.
+pub fn check_walk(
+    codec: &Codec,
+    boards: [&Board; 2],
+    run: &[u8],
+    tally: Tally,
+) -> Result<(), String> {
+    let size = boards[0].size;
+    let walk = |picture: &mut [u8], map: &mut [u16]| (codec.walk_run)(size, run, picture, map);
+    check_call(boards, walk, tally, || {
+        format!("run {} at {size:?}", bytes_in_short(run))
     })
 }

@@ -5,7 +5,7 @@ use second::reader::At;
 use second::walk::{ChunkRead, Fault, Stop, Walk};
 
 use crate::compare::RunComparison;
-use crate::feed_tally::refused_between;
+use crate::feed_tally::{accepted_after_padded, refused_between};
 use crate::runs::{RunCase, BACKLOG};
 use crate::tally::{Counts, Numbers, Thing, Things};
 
@@ -15,7 +15,7 @@ pub struct RunTally {
     boards: Things<6>,
     stops: Things<8>,
     refused: Things<6>,
-    chunks: Things<4>,
+    chunks: Things<5>,
 }
 
 impl RunTally {
@@ -133,7 +133,7 @@ fn refused(walk: &Walk) -> [Thing; 6] {
     ]
 }
 
-fn chunks(walk: &Walk) -> [Thing; 4] {
+fn chunks(walk: &Walk) -> [Thing; 5] {
     let chunks = &walk.chunks;
     let two_groups = |chunk: &ChunkRead| chunk.number == 0 && chunk.length >= 1 << 7;
     let rises = |two: &[ChunkRead]| two[0].unsettled < two[1].unsettled;
@@ -149,6 +149,10 @@ fn chunks(walk: &Walk) -> [Thing; 4] {
         (
             "runs with an accepted chunk whose length has several groups",
             chunks.iter().any(two_groups),
+        ),
+        (
+            "runs with an accepted chunk after a padded one",
+            accepted_after_padded(chunks),
         ),
         (
             "runs in which the unsettled count rises",

@@ -2,7 +2,7 @@
 
 use seatboard::exact::Answer;
 use seatboard::Reason;
-use second::reader::{Command, Step};
+use second::reader::{Command, Reading, Step};
 
 use crate::compare::Comparison;
 use crate::generate::Case;
@@ -55,16 +55,26 @@ pub struct Tally {
     /// took a block skipped in the same chunk.
     copies_across_lines: usize,
     copies_of_skipped: usize,
+    padding: Things<4>,
+    following: Things<6>,
 }
 
 impl Tally {
-    /// A refused chunk has no steps and so adds to nothing but the numbers and stops.
+    /// A refused chunk has no steps and so adds to nothing but the numbers, stops and what follows
+    /// the last block.
     pub fn add(&mut self, Case { board, chunk }: &Case, compared: &Comparison) {
-        self.numbers.add(compared.answer.number);
-        self.add_stop(board.map.len(), compared.answer);
-        self.add_opcodes(chunk, &compared.steps);
-        self.add_tables(chunk, &compared.steps);
-        self.add_copies(board.size.width / 4, &compared.steps);
+        let Comparison {
+            answer, reading, ..
+        } = compared;
+        self.numbers.add(answer.number);
+        self.add_stop(board.map.len(), *answer);
+        self.add_opcodes(chunk, &reading.steps);
+        self.add_tables(chunk, &reading.steps);
+        self.add_copies(board.size.width / 4, &reading.steps);
+        self.padding.add(padding(chunk, reading));
+        if answer.number == 11 {
+            self.following.add(following(&chunk[answer.place..]));
+        }
     }
 
     fn add_stop(&mut self, blocks: usize, Answer { number, block, .. }: Answer) {
@@ -190,6 +200,46 @@ impl Tally {
             ("copies from a skipped block".into(), self.copies_of_skipped),
         ]
     }
+
+    pub fn following_counts(&self) -> Counts {
+        [self.padding.counts(), self.following.counts()].concat()
+    }
+}
+
+fn padding(chunk: &[u8], Reading { padding, .. }: &Reading) -> [Thing; 4] {
+    let no_fours = *padding > 0 && !chunk.len().is_multiple_of(4);
+    [
+        ("accepted chunks with one byte of padding", *padding == 1),
+        ("accepted chunks with two bytes of padding", *padding == 2),
+        ("accepted chunks with three bytes of padding", *padding == 3),
+        (
+            "of these, with a length that is no multiple of four",
+            no_fours,
+        ),
+    ]
+}
+
+/// How 11 came about: the bytes after the last block.
+fn following(bytes: &[u8]) -> [Thing; 6] {
+    let zero = |byte: &u8| *byte == 0;
+    let few = bytes.len() <= 3;
+    let bits: u32 = bytes.iter().map(|byte| byte.count_ones()).sum();
+    let (last, before) = bytes.split_last().expect("11 is given at a byte");
+    let last_alone = !before.is_empty() && before.iter().all(zero) && !zero(last);
+    [
+        ("11 by four zeros", bytes.len() == 4 && bits == 0),
+        ("11 by more zeros", bytes.len() > 4 && bits == 0),
+        ("11 by four bytes or more, not all zero", !few && bits > 0),
+        (
+            "11 by one to three bytes, the first not zero",
+            few && !zero(&bytes[0]),
+        ),
+        (
+            "11 by two or three bytes, the last alone not zero",
+            few && last_alone,
+        ),
+        ("11 by a single bit of one to three bytes", few && bits == 1),
+    ]
 }
 
 /// Things that occurred, and how often.

@@ -6,7 +6,7 @@
 //! on the two boards, and one that shows the same pixels on both comes from neither start.
 
 use seatboard::{Accepted, Reason, Refused, Size, SETTLED};
-use second::reader::pixel_blocks;
+use second::reader::{self, pixel_blocks};
 use second::walk;
 
 use crate::sequences::{Call, Sequence};
@@ -39,13 +39,19 @@ struct Ran {
 /// What the sequences had, so that a comparison which missed something says so.
 #[derive(Default)]
 pub struct Tally {
-    sequences: Things<12>,
+    sequences: Things<9>,
+    chunks: Things<4>,
     runs: Things<6>,
 }
 
 impl Tally {
     pub fn counts(&self) -> Counts {
-        [self.sequences.counts(), self.runs.counts()].concat()
+        [
+            self.sequences.counts(),
+            self.chunks.counts(),
+            self.runs.counts(),
+        ]
+        .concat()
     }
 }
 
@@ -59,6 +65,7 @@ pub fn check(sequence: &Sequence, tally: &mut Tally) -> Vec<String> {
         }
     };
     tally.sequences.add(things(sequence, &first));
+    tally.chunks.add(chunks(sequence, &first));
     tally.runs.add(runs(sequence, &first));
     let mut wrong = unequal(&first, &second);
     wrong.extend(wrong_blocks(sequence, &first, &second));
@@ -142,14 +149,9 @@ fn wrong_blocks(sequence: &Sequence, first: &Ran, second: &Ran) -> Vec<String> {
     entries.filter_map(wrong).collect()
 }
 
-fn things(sequence: &Sequence, ran: &Ran) -> [Thing; 12] {
+fn things(sequence: &Sequence, ran: &Ran) -> [Thing; 9] {
     let Size { width, height } = sequence.size;
     let calls = || sequence.calls.iter().zip(&ran.answers);
-    let read = |accepted| {
-        move |(call, answered): (&Call, &Answered)| {
-            matches!(call, Call::Read(_)) && answered.end.is_ok() == accepted
-        }
-    };
     let walked = |numbers: &'static [u8]| {
         move |(call, answered): (&Call, &Answered)| {
             matches!(call, Call::Walk(_)) && numbers.contains(&answered.number())
@@ -159,9 +161,6 @@ fn things(sequence: &Sequence, ran: &Ran) -> [Thing; 12] {
     let left = *ran.counts.last().unwrap_or(&0);
     [
         ("sequences without a call", sequence.calls.is_empty()),
-        ("sequences with an accepted chunk", calls().any(read(true))),
-        ("sequences with a refused chunk", calls().any(read(false))),
-        ("with a chunk refused behind block 0", calls().any(behind)),
         ("with a walk that got 0", calls().any(walked(&[0]))),
         ("with a walk that got 1 or 2", calls().any(walked(&[1, 2]))),
         ("with a walk that got 12", calls().any(walked(&[12]))),
@@ -179,6 +178,26 @@ fn things(sequence: &Sequence, ran: &Ran) -> [Thing; 12] {
             "with some settled and some not",
             left > 0 && left < width * height / 16,
         ),
+    ]
+}
+
+/// Which chunks it had by themselves.
+fn chunks(sequence: &Sequence, ran: &Ran) -> [Thing; 4] {
+    let calls = || sequence.calls.iter().zip(&ran.answers);
+    let read = |accepted| {
+        move |(call, answered): (&Call, &Answered)| {
+            matches!(call, Call::Read(_)) && answered.end.is_ok() == accepted
+        }
+    };
+    let padded = |call: &Call| matches!(call, Call::Read(chunk) if padded(sequence.size, chunk));
+    [
+        ("sequences with an accepted chunk", calls().any(read(true))),
+        (
+            "sequences with a padded chunk",
+            sequence.calls.iter().any(padded),
+        ),
+        ("sequences with a refused chunk", calls().any(read(false))),
+        ("with a chunk refused behind block 0", calls().any(behind)),
     ]
 }
 
@@ -220,7 +239,18 @@ fn runs(sequence: &Sequence, ran: &Ran) -> [Thing; 6] {
 
 /// As the second walk finds them, on a board of its own.
 fn chunks_in(size: Size, run: &[u8]) -> usize {
-    let (mut picture, mut map) = (vec![0; size.pixels()], vec![0; size.blocks()]);
+    let (mut picture, mut map) = own_board(size);
     let walk = walk::walk_run((size.width, size.height), run, &mut picture, &mut map);
     walk.chunks.len()
+}
+
+/// Whether the second reader accepts it, with padding, on a board of its own.
+fn padded(size: Size, chunk: &[u8]) -> bool {
+    let (mut picture, mut map) = own_board(size);
+    let read = reader::read_chunk((size.width, size.height), chunk, &mut picture, &mut map);
+    read.is_ok_and(|reading| reading.padding > 0)
+}
+
+pub fn own_board(size: Size) -> (Vec<u8>, Vec<u16>) {
+    (vec![0; size.pixels()], vec![0; size.blocks()])
 }

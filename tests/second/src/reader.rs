@@ -1,5 +1,5 @@
-//! The independent second reader of SMC chunks, written from papers 01 (the rules), 02 (which block)
-//! and 003 (the published description) and from nothing of ours.
+//! The independent second reader of SMC chunks, written from papers 01 (the rules), 02 (which block,
+//! padding) and 003 (the published description) and from nothing of ours.
 //!
 //! A chunk is first parsed whole into commands, with every table entry already replaced by its
 //! colours. Only a chunk without fault is then applied, to a picture held as blocks; so a refused
@@ -24,7 +24,7 @@ impl At {
         At { place, block: 0 }
     }
 
-    /// Of what was accepted: its length (01), and the number of blocks (02).
+    /// Of what was accepted: its length (01), padding included, and the number of blocks (02).
     pub fn end(length: usize, map: &[u16]) -> Self {
         At {
             place: length,
@@ -111,6 +111,14 @@ pub struct Step {
     pub command: Command,
 }
 
+/// An accepted chunk.
+#[derive(Default)]
+pub struct Reading {
+    pub steps: Vec<Step>,
+    /// How many bytes follow the last block (02).
+    pub padding: usize,
+}
+
 /// 01: 1 and 2 are all that a fresh map refuses.
 pub fn fresh_map(width: usize, height: usize, map: &mut [u16]) -> Result<(), Refusal> {
     check_map(width, height, map)?;
@@ -126,21 +134,21 @@ pub fn count(width: usize, height: usize, map: &[u16]) -> Result<usize, Refusal>
     Ok(map.iter().filter(|entry| **entry != SETTLED).count())
 }
 
-/// Reads a chunk over the lent picture and map; gives the commands of an accepted one.
+/// Reads a chunk over the lent picture and map; gives what an accepted one has in it.
 pub fn read_chunk(
     (width, height): (usize, usize),
     chunk: &[u8],
     picture: &mut [u8],
     map: &mut [u16],
-) -> Result<Vec<Step>, Refusal> {
+) -> Result<Reading, Refusal> {
     check_lent((width, height), picture, map)?;
-    let steps = parse(chunk, map.len())?;
+    let reading = parse(chunk, map.len())?;
     let mut blocks = cut_into_blocks(width, picture, map);
-    for step in &steps {
+    for step in &reading.steps {
         apply(&mut blocks, step);
     }
     put_blocks_back(&blocks, width, picture, map);
-    Ok(steps)
+    Ok(reading)
 }
 
 /// 01's order: 1, then 2 for either buffer.
@@ -210,7 +218,7 @@ struct Parser<'a> {
     octets: Table<8>,
 }
 
-fn parse(chunk: &[u8], blocks: usize) -> Result<Vec<Step>, Refusal> {
+fn parse(chunk: &[u8], blocks: usize) -> Result<Reading, Refusal> {
     let [_, high, middle, low, ..] = *chunk else {
         return Err(Refusal::UnderFourBytes);
     };
@@ -237,10 +245,8 @@ fn parse(chunk: &[u8], blocks: usize) -> Result<Vec<Step>, Refusal> {
             command,
         });
     }
-    if parser.next < chunk.len() {
-        return Err(Refusal::BytesFollow(parser.here()));
-    }
-    Ok(steps)
+    let padding = parser.padding()?;
+    Ok(Reading { steps, padding })
 }
 
 impl Parser<'_> {
@@ -248,6 +254,15 @@ impl Parser<'_> {
         At {
             place: self.next,
             block: self.done,
+        }
+    }
+
+    /// 02: one to three bytes after the last block are accepted if all are zero.
+    fn padding(&self) -> Result<usize, Refusal> {
+        let rest = &self.chunk[self.next..];
+        match rest {
+            [] | [0] | [0, 0] | [0, 0, 0] => Ok(rest.len()),
+            _ => Err(Refusal::BytesFollow(self.here())),
         }
     }
 

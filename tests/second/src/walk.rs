@@ -55,6 +55,8 @@ pub struct ChunkRead {
     pub length: usize,
     pub number: u8,
     pub at: At,
+    /// How many bytes follow its last block, if it was accepted (02).
+    pub padding: usize,
     pub unsettled: usize,
 }
 
@@ -144,6 +146,7 @@ impl Lent<'_> {
             length: chunk.len(),
             number,
             at,
+            padding: reading.map_or(0, |reading| reading.padding),
             unsettled,
         })
     }

@@ -1,5 +1,5 @@
 use Prim.Native.Nat.{_-_}
-use mathlib.Core.Path.{_≡_, refl, _∙_}
+use mathlib.Core.Path.{_≡_, refl, sym, _∙_}
 use native.Mathlib.Omega.{arith}
 use lib.ListN.{length}
 use borrow.Author.Needs.{needs}
@@ -86,23 +86,26 @@ loop-again c =
     let t = told-runs (a .blocks) (a .s .now) _ _ _ _ _ _ _ (c .before .before .head2 .given .1) (c .before .before .before .before .opcode .ensures) in
     (c .before .before .before .before .before .before .before .before .before .before .loop .inv .0, c .before .before .before .before .before .before .before .before .before .before .loop .inv .1, rw (c .grown .ensures) (goes-on (a .blocks) (a .s .now) _ _ _ g (omega arith) (omega arith) _ _ _ t))
 
+padding-requires : tie.Need-padding-requires Inv-loop μ-loop
+padding-requires c κs = c .before .loop .inv .2 .within
+
 stop-requires-3 : tie.Need-stop-requires-3 Inv-loop μ-loop
 stop-requires-3 c κs = search needs
 
 returns-3 : tie.Need-returns-3 Inv-loop μ-loop
 returns-3 c =
-    let a = c .before .before .before .before .before .before .before .before .args in
-    let g = c .before .before .before .loop .inv .2 in
-    c .stop3 .ensures ∙ ends-follow (a .blocks) (a .s .now) _ _ _ g (omega arith) (omega arith)
+    let a = c .before .before .before .before .before .before .before .before .before .args in
+    let g = c .before .before .before .before .loop .inv .2 in
+    c .stop3 .ensures ∙ ends-ok (a .blocks) (a .s .now) _ _ _ g (omega arith) (sym (c .before .before .padding .ensures) ∙ c .before .if2 .taken)
 
 stop-requires-4 : tie.Need-stop-requires-4 Inv-loop μ-loop
 stop-requires-4 c κs = search needs
 
 returns-4 : tie.Need-returns-4 Inv-loop μ-loop
 returns-4 c =
-    let a = c .before .before .before .before .before .before .before .before .args in
-    let g = c .before .before .before .loop .inv .2 in
-    c .stop4 .ensures ∙ ends-ok (a .blocks) (a .s .now) _ _ _ g (omega arith) (omega arith)
+    let a = c .before .before .before .before .before .before .before .before .before .args in
+    let g = c .before .before .before .before .loop .inv .2 in
+    c .stop4 .ensures ∙ ends-follow (a .blocks) (a .s .now) _ _ _ g (omega arith) (sym (c .before .before .padding .ensures) ∙ c .before .if2 .left)
 
 pub check-opcodes-spec : {M : Type 1} → statement M
 check-opcodes-spec =
@@ -125,6 +128,7 @@ check-opcodes-spec =
     add-k
     loop-less
     loop-again
+    padding-requires
     stop-requires-3
     returns-3
     stop-requires-4
