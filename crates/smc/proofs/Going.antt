@@ -9,13 +9,13 @@ use lib.Dec.{eqb, ltb}
 use lib.ListN.{length, getD, drop}
 use Rattle.spec.specs.declared.Answer.{Answer}
 use Rattle.spec.specs.Basics.{if, part}
-use Rattle.spec.specs.Answers.{chunkShort, lengthDiffers, bytesFollow, answerAt, answer}
+use Rattle.spec.specs.Answers.{chunkShort, lengthDiffers, answerAt, answer}
 use Rattle.spec.specs.Flags.{number}
 use Rattle.spec.specs.Maps.{remap}
 use Rattle.spec.specs.Pictures.{paint}
 use Rattle.spec.specs.Chunks.{Head, fills, missing, upperAt, countAt, bodyAt, opcode, act, step, State, start, emptied, Outcome, refused, accepted, padding, resume, loop, decode}
 use Rattle.spec.proofs.Heads.{Known, bad, good, known-head, body-after}
-use Rattle.spec.proofs.Loops.{unroll, loop-remains, loop-full}
+use Rattle.spec.proofs.Loops.{unroll, loop-remains, loop-accepts, loop-follows}
 use Rattle.spec.proofs.Made.{length-extend}
 use Rattle.spec.proofs.SoFar.{soFar-all, paint-none, remap-none}
 use Rattle.smc.specs.Painting.{Accepts, originsOf, Lent, kindAt, blocksAt, Room, after, Inside, Turned}
@@ -69,9 +69,11 @@ module _ (n : ℕ) (s : List ℕ) (g : Accepts (decode n s)) (st : State) (same 
       moves h (known-head n s (st .at) (length (st .made)) (fills (st .tables))) (same ∙ unroll n s (length s) st (omega arith) l h)
 
   ended : n ≤ length (st .made) → decode n s ≡ accepted (st .made)
-  ended l =
-      let e = same ∙ loop-full n s (length s) st l in
-      e ∙ passed (not (padding (drop (st .at) s))) (answerAt bytesFollow (st .at) n) (accepted (st .made)) (subst Accepts e g)
+  ended l = by (padding (drop (st .at) s)) refl
+    where
+      by : (b : Bool) → padding (drop (st .at) s) ≡ b → decode n s ≡ accepted (st .made)
+      by true e = same ∙ loop-accepts n s (length s) st l e
+      by false e = absurd (never (decode n s) g _ (same ∙ loop-follows n s (length s) st l e))
 
 -- the loop stands inside a state from which `decode` goes on
 pub record Going (c r : ℕ) (s pic₀ map₀ : List ℕ) (at k : ℕ) (l₁ : List ℕ) (n₁ : ℕ) (l₂ : List ℕ) (n₂ : ℕ) (l₃ : List ℕ) (n₃ : ℕ) (pic m : List ℕ) : Type 0 where

@@ -71,7 +71,7 @@ module _ (n : ℕ) (s : List ℕ) where
 
   -- all blocks made: the bytes behind them decide
   module _ (fuel : ℕ) (st : State) (h : n ≤ length (st .made)) where
-    pub loop-full : loop fuel n s st ≡ if (not (padding (drop (st .at) s))) (refused (answerAt bytesFollow (st .at) n)) (accepted (st .made))
+    loop-full : loop fuel n s st ≡ if (not (padding (drop (st .at) s))) (refused (answerAt bytesFollow (st .at) n)) (accepted (st .made))
     unfolding finish if
     loop-full = unroll-end fuel st (rw (le-ltb (length (st .made)) n h)) ∙ rw (le-ltb (length (st .made)) n h)
 
