@@ -1,17 +1,24 @@
-//! Chunks of every opcode, 0 to E, with runs of any length and random colours, flags and entries.
+//! Chunks of chosen opcodes, with runs of any length and random colours, flags and entries.
 
 use crate::hall::SIZE;
 use crate::random::Random;
 
-/// How often each opcode is taken, 0 to E: so that each of 2 to E paints about as many blocks as any
-/// other, those that count up to 256 being taken the more seldom. Skips have a tenth of such a share.
-const WEIGHTS: [usize; 15] = [
+/// How often each opcode is taken, 0 to E.
+pub type Weights = [usize; 15];
+
+/// So that each of 2 to E paints about as many blocks as any other, those that count up to 256 being
+/// taken the more seldom. Skips have a tenth of such a share.
+pub const EVERY_OPCODE: Weights = [
     12, 1, 120, 8, 60, 4, 120, 8, 120, 120, 120, 120, 120, 120, 120,
 ];
 
-pub fn chunk(random: &mut Random) -> Vec<u8> {
+/// Octets stored and octets named, equally often.
+pub const OCTETS: Weights = [0, 0, 0, 0, 0, 0, 0, 0, 0, 0, 0, 0, 1, 1, 0];
+
+pub fn chunk(random: &mut Random, weights: &Weights) -> Vec<u8> {
     let mut dense = Dense {
         random,
+        weights,
         chunk: vec![0xE1, 0, 0, 0],
         left: SIZE.blocks(),
         stored: [0; 3],
@@ -27,6 +34,7 @@ pub fn chunk(random: &mut Random) -> Vec<u8> {
 
 struct Dense<'a> {
     random: &'a mut Random,
+    weights: &'a Weights,
     chunk: Vec<u8>,
     /// Blocks that have not had their turn.
     left: usize,
@@ -36,12 +44,12 @@ struct Dense<'a> {
 
 impl Dense<'_> {
     fn push_opcode(&mut self) {
-        let mut weights = WEIGHTS;
+        let mut weights = *self.weights;
         for (upper, weight) in weights.iter_mut().enumerate() {
             *weight *= usize::from(self.can(upper));
         }
         let upper = self.random.weighted(&weights);
-        let upper = upper.expect("a skip is always possible");
+        let upper = upper.expect("a skip or a stored octet is always possible");
         let n = self.push_count(upper);
         match upper {
             0x0..=0x5 => {}

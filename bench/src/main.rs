@@ -6,7 +6,7 @@
 //! cargo run --release --locked --offline --package bench [-- --only WORK]
 //! ```
 //!
-//! The works are a, b, c, d1 to d4 and e. `--count WORK [--who NAME] [--rounds N]` does one of them
+//! The works are a, b, c, c8, d1 to d4 and e. `--count WORK [--who NAME] [--rounds N]` does one of them
 //! as one contestant ("ours") so many times (once) and takes no time, for tools that count. The
 //! function that is measured is called for nothing else, so that it alone can be looked at:
 //!
@@ -44,7 +44,7 @@ const FEW: usize = ALL / 20;
 
 /// The heading, which bytes a second are told, and the works.
 const SECTIONS: [(&str, &str, &[&str]); 3] = [
-    ("Reading a chunk, 320x200", "pixels", &["a", "b", "c"]),
+    ("Reading a chunk, 320x200", "pixels", &["a", "b", "c", "c8"]),
     (
         "Writing a chunk, 320x200",
         "pixels",
@@ -57,7 +57,8 @@ fn contest(work: &str) -> Result<Contest, String> {
     Ok(match work {
         "a" => readers::changes("a: 5 % of the blocks changed", FEW, 2.5),
         "b" => readers::changes("b: half of the blocks changed", HALF, 1.5),
-        "c" => readers::dense("c: every opcode", 1.5),
+        "c" => readers::dense("c: every opcode", &dense::EVERY_OPCODE, 1.5),
+        "c8" => readers::dense("c8: octets alone", &dense::OCTETS, 1.0),
         "d1" => writers::contest("d1: equal pictures", 0, 2.0),
         "d2" => writers::contest("d2: 5 % of the blocks changed", FEW, 2.0),
         "d3" => writers::contest("d3: half of the blocks changed", HALF, 2.0),

@@ -6,7 +6,7 @@ use second::reader;
 
 use crate::beside;
 use crate::contest::{Contest, Contestant, Made};
-use crate::dense;
+use crate::dense::{self, Weights};
 use crate::hall::{SIZE, WIDTH_AND_HEIGHT};
 use crate::random::Random;
 use crate::story::{self, packed, Story, PAIRS};
@@ -28,11 +28,11 @@ pub fn changes(title: &str, changed: usize, aim: f64) -> Contest {
     contest(title, reading, aim, true)
 }
 
-pub fn dense(title: &str, aim: f64) -> Contest {
+pub fn dense(title: &str, weights: &Weights, aim: f64) -> Contest {
     let random = &mut Random::for_case(SEED, u64::MAX);
     let reading = Reading {
         start: random.bytes(SIZE.pixels()),
-        chunks: (0..PAIRS).map(|_| dense::chunk(random)).collect(),
+        chunks: (0..PAIRS).map(|_| dense::chunk(random, weights)).collect(),
     };
     contest(title, reading, aim, false)
 }

@@ -8,7 +8,9 @@ use lib.ListN.{length, getD}
 use Rattle.spec.specs.Basics.{part}
 use Rattle.spec.specs.Flags.{digits, flags, chosen}
 use Rattle.spec.proofs.Parts.{part-listed}
-use Rattle.spec.proofs.Digits.{pair-flags, quad-flags, octet-flags}
+use Rattle.spec.specs.Octets.{inRows}
+use Rattle.spec.proofs.Digits.{pair-flags, quad-flags}
+use Rattle.spec.proofs.Octets.{octet-flags}
 use Rattle.smc.proofs.RowsPut.{Four, four}
 
 -- the colours of four rows of flags, and of one
@@ -28,26 +30,11 @@ quad-row t f h =
     let q3 : f / 1 % 4 ≡ f % 4 = omega arith in
     rw (q0, q3)
 
-pub octet-row : (t : List ℕ) (f g : ℕ) → f < 256 → g < 16
-    → getD t (f / 32) 0 ∷ getD t (f / 4 % 8) 0 ∷ getD t (f % 4 * 2 + g / 8) 0 ∷ getD t (g % 8) 0 ∷ [] ≡ chosen (digits 3 4 (f * 16 + g)) t
-unfolding digits
-octet-row t f g hf hg =
-    let q0 : (f * 16 + g) / 512 % 8 ≡ f / 32 = omega arith in
-    let q1 : (f * 16 + g) / 64 % 8 ≡ f / 4 % 8 = omega arith in
-    let q2 : (f * 16 + g) / 8 % 8 ≡ f % 4 * 2 + g / 8 = omega arith in
-    let q3 : (f * 16 + g) / 1 % 8 ≡ g % 8 = omega arith in
-    rw (q0, q1, q2, q3)
-
--- for every six flag bytes: rows by a byte and a half-byte each name what the two 24-bit numbers name
-pub octet-rows : (cs : List ℕ) (a b c d e f : ℕ) → b < 256 → c < 256 → d < 256 → f < 256
-    → chosen (digits 3 4 (a * 16 + b / 16)) cs
-    ++ chosen (digits 3 4 (c * 16 + d / 16)) cs
-    ++ chosen (digits 3 4 (e * 16 + f / 16)) cs
-    ++ chosen (digits 3 4 ((b % 16 * 16 + d % 16) * 16 + f % 16)) cs
-    ≡ chosen (flags 3 (a ∷ b ∷ c ∷ d ∷ e ∷ f ∷ [])) cs
-octet-rows cs a b c d e f hb hc hd hf =
-    sym (chosen-rows cs (digits 3 4 (a * 16 + b / 16)) (digits 3 4 (c * 16 + d / 16)) (digits 3 4 (e * 16 + f / 16))
-    (digits 3 4 ((b % 16 * 16 + d % 16) * 16 + f % 16)) _ (octet-flags a b c d e f hb hc hd hf))
+pub octet-rows : (cs : List ℕ) (f0 f1 f2 f3 f4 f5 : ℕ) → f1 < 256 → f2 < 256 → f3 < 256 → f5 < 256
+    → inRows (λ f g. chosen (digits 3 4 (f * 16 + g)) cs) f0 f1 f2 f3 f4 f5 ≡ chosen (flags 3 (f0 ∷ f1 ∷ f2 ∷ f3 ∷ f4 ∷ f5 ∷ [])) cs
+octet-rows cs f0 f1 f2 f3 f4 f5 h1 h2 h3 h5 =
+    let row : ℕ → ℕ → List ℕ = λ f g. digits 3 4 (f * 16 + g) in
+    sym (chosen-rows cs (row f0 (f1 / 16)) (row f2 (f3 / 16)) (row f4 (f5 / 16)) (row (f1 % 16 * 16 + f3 % 16) (f5 % 16)) _ (octet-flags f0 f1 f2 f3 f4 f5 h1 h2 h3 h5))
 
 pub pair-rows : (cs : List ℕ) (f g : ℕ) → g < 256
     → chosen (digits 1 4 (f / 16)) cs ++ chosen (digits 1 4 (f % 16)) cs ++ chosen (digits 1 4 (g / 16)) cs ++ chosen (digits 1 4 (g % 16)) cs

@@ -90,7 +90,8 @@ pub fn quad_rows(t: &[u8], f0: u8, f1: u8, f2: u8, f3: u8) -> Rows
     Rows { a, b, c, d }
 }
 
-// ---- octets: three bits a pixel. Nothing here is wider than a byte but places.
+// ---- octets: three bits a pixel. Nothing here is wider than a byte but places, for controllers that are slow at shifting wider numbers: tests/run
+// looks at that. `spec/specs/Octets` says what is computed here, and what it names.
 
 // Stores at pic[p] four pixels by twelve bits: a byte, and the half-byte after it.
 fn put_octet_row(pic: &mut [u8], p: usize, t: &[u8], f: u8, g: u8)

@@ -10,7 +10,7 @@ use lib.Pow.{pow-add, pow-pos}
 use lib.ListN.{length, getD, length-map, length-append, List·getD-append}
 use lib.Seq.{getD-append-add, ext-getD}
 use Rattle.spec.specs.Basics.{if}
-use Rattle.spec.specs.Flags.{digits, upper24, lower24, flags}
+use Rattle.spec.specs.Flags.{digits, flags}
 use Rattle.spec.proofs.Lists.{getD-rule, length-from}
 
 -- digits of a number by parts
@@ -75,16 +75,3 @@ quad-flags f g h k hg hh hk =
     ap (digits 2 16) e
     ∙ digits-split 2 8 8 (f * 256 + g) (h * 256 + k) (omega arith)
     ∙ rw (two-quads f g hg, two-quads h k hk) (sym (append-assoc (digits 2 4 f ++ digits 2 4 g) (digits 2 4 h) (digits 2 4 k)))
-
-two-octets : (x y : ℕ) → y < 4096 → digits 3 8 (x * 4096 + y) ≡ digits 3 4 x ++ digits 3 4 y
-two-octets x y h = digits-split 3 4 4 x y h
-
--- for every six flag bytes: the rows by a byte and a half-byte each name what the two 24-bit numbers name
-pub octet-flags : (a b c d e f : ℕ) → b < 256 → c < 256 → d < 256 → f < 256 → flags 3 (a ∷ b ∷ c ∷ d ∷ e ∷ f ∷ [])
-    ≡ digits 3 4 (a * 16 + b / 16) ++ digits 3 4 (c * 16 + d / 16) ++ digits 3 4 (e * 16 + f / 16) ++ digits 3 4 ((b % 16 * 16 + d % 16) * 16 + f % 16)
-unfolding flags if upper24 lower24
-octet-flags a b c d e f hb hc hd hf =
-    let u : upper24 (a ∷ b ∷ c ∷ d ∷ e ∷ f ∷ []) ≡ (a * 16 + b / 16) * 4096 + (c * 16 + d / 16) = omega arith in
-    let l : lower24 (a ∷ b ∷ c ∷ d ∷ e ∷ f ∷ []) ≡ (e * 16 + f / 16) * 4096 + ((b % 16 * 16 + d % 16) * 16 + f % 16) = omega arith in
-    rw (ap (digits 3 8) u, ap (digits 3 8) l, two-octets (a * 16 + b / 16) (c * 16 + d / 16) (omega arith), two-octets (e * 16 + f / 16) ((b % 16 * 16 + d % 16) * 16 + f % 16) (omega arith))
-    (sym (append-assoc (digits 3 4 (a * 16 + b / 16) ++ digits 3 4 (c * 16 + d / 16)) (digits 3 4 (e * 16 + f / 16)) (digits 3 4 ((b % 16 * 16 + d % 16) * 16 + f % 16))))

@@ -14,6 +14,7 @@ pub mod Refused
 pub mod Made
 pub mod SoFar
 pub mod Digits
+pub mod Octets
 pub mod Numbers
 pub mod Packing
 pub mod Colours

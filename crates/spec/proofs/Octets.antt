@@ -1,0 +1,45 @@
+-- The octet step: a row by bytes, four rows, and both. The proofs of the reader's octet step go by the first two. Assumes nothing.
+use Prim.Native.Nat.{ℕ, _+_, _*_, _/_, _%_, _<_}
+use mathlib.Core.Path.{_≡_, sym, ap, _∙_}
+use mathlib.Core.List.{[], _∷_, _++_, append-assoc}
+use native.Mathlib.Omega.{arith}
+use Rattle.spec.specs.Basics.{if}
+use Rattle.spec.specs.Flags.{digits, upper24, lower24, flags}
+use Rattle.spec.specs.Octets.{rowByBytes, inRows, OctetStep}
+use Rattle.spec.proofs.Digits.{digits-split}
+
+-- a row's indices are the digits of its byte and half-byte
+pub octet-row : (f g : ℕ) → f < 256 → g < 16 → rowByBytes f g ≡ digits 3 4 (f * 16 + g)
+unfolding digits
+octet-row f g hf hg =
+    let q0 : f / 32 ≡ (f * 16 + g) / 512 % 8 = omega arith in
+    let q1 : f / 4 % 8 ≡ (f * 16 + g) / 64 % 8 = omega arith in
+    let q2 : f % 4 * 2 + g / 8 ≡ (f * 16 + g) / 8 % 8 = omega arith in
+    let q3 : g % 8 ≡ (f * 16 + g) / 1 % 8 = omega arith in
+    (λ i. q0 i ∷ q1 i ∷ q2 i ∷ q3 i ∷ [])
+
+-- two rows make one of the 24-bit numbers, and four a block's flags
+two-rows : (x y : ℕ) → y < 4096 → digits 3 8 (x * 4096 + y) ≡ digits 3 4 x ++ digits 3 4 y
+two-rows x y h = digits-split 3 4 4 x y h
+
+pub octet-flags : (f0 f1 f2 f3 f4 f5 : ℕ) → f1 < 256 → f2 < 256 → f3 < 256 → f5 < 256
+    → flags 3 (f0 ∷ f1 ∷ f2 ∷ f3 ∷ f4 ∷ f5 ∷ []) ≡ inRows (λ f g. digits 3 4 (f * 16 + g)) f0 f1 f2 f3 f4 f5
+unfolding flags if upper24 lower24
+octet-flags f0 f1 f2 f3 f4 f5 h1 h2 h3 h5 =
+    let a = f0 * 16 + f1 / 16 in
+    let b = f2 * 16 + f3 / 16 in
+    let c = f4 * 16 + f5 / 16 in
+    let d = (f1 % 16 * 16 + f3 % 16) * 16 + f5 % 16 in
+    let upper : upper24 (f0 ∷ f1 ∷ f2 ∷ f3 ∷ f4 ∷ f5 ∷ []) ≡ a * 4096 + b = omega arith in
+    let lower : lower24 (f0 ∷ f1 ∷ f2 ∷ f3 ∷ f4 ∷ f5 ∷ []) ≡ c * 4096 + d = omega arith in
+    rw (ap (digits 3 8) upper, ap (digits 3 8) lower, two-rows a b (omega arith), two-rows c d (omega arith))
+    (sym (append-assoc (digits 3 4 a ++ digits 3 4 b) (digits 3 4 c) (digits 3 4 d)))
+
+pub octet-step : OctetStep
+unfolding flags if
+octet-step f0 f1 f2 f3 f4 f5 h0 h1 h2 h3 h4 h5 =
+    let a = octet-row f0 (f1 / 16) h0 (omega arith) in
+    let b = octet-row f2 (f3 / 16) h2 (omega arith) in
+    let c = octet-row f4 (f5 / 16) h4 (omega arith) in
+    let d = octet-row (f1 % 16 * 16 + f3 % 16) (f5 % 16) (omega arith) (omega arith) in
+    (λ i. a i ++ b i ++ c i ++ d i) ∙ sym (octet-flags f0 f1 f2 f3 f4 f5 h1 h2 h3 h5)
