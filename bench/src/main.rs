@@ -6,8 +6,8 @@
 //! cargo run --release --locked --offline --package bench [-- --only WORK]
 //! ```
 //!
-//! The works are a, b, c, c8, d1 to d4 and e. `--count WORK [--who NAME] [--rounds N]` does one of them
-//! as one contestant ("ours") so many times (once) and takes no time, for tools that count. The
+//! The works are a, b, c, c8, d1 to d4 and e. `--count WORK [--who NAME] [--rounds N]` does one of
+//! them as one contestant ("ours") so many times (once) and takes no time, for tools that count. The
 //! function that is measured is called for nothing else, so that it alone can be looked at:
 //!
 //! ```text

@@ -1,8 +1,10 @@
--- The octet step: a row by bytes, four rows, and both. The proofs of the reader's octet step go by the first two. Assumes nothing.
+-- The octet step: a row by bytes, four rows, and both. The proofs of the reader's octet step go by the first two. What a row takes is asked of
+-- `inRows`, not written again: were it another, the numbers would not agree. Assumes nothing.
 use Prim.Native.Nat.{ℕ, _+_, _*_, _/_, _%_, _<_}
 use mathlib.Core.Path.{_≡_, sym, ap, _∙_}
-use mathlib.Core.List.{[], _∷_, _++_, append-assoc}
+use mathlib.Core.List.{List, [], _∷_, _++_, append-assoc}
 use native.Mathlib.Omega.{arith}
+use lib.ListN.{getD}
 use Rattle.spec.specs.Basics.{if}
 use Rattle.spec.specs.Flags.{digits, upper24, lower24, flags}
 use Rattle.spec.specs.Octets.{rowByBytes, inRows, OctetStep}
@@ -26,20 +28,27 @@ pub octet-flags : (f0 f1 f2 f3 f4 f5 : ℕ) → f1 < 256 → f2 < 256 → f3 < 2
     → flags 3 (f0 ∷ f1 ∷ f2 ∷ f3 ∷ f4 ∷ f5 ∷ []) ≡ inRows (λ f g. digits 3 4 (f * 16 + g)) f0 f1 f2 f3 f4 f5
 unfolding flags if upper24 lower24
 octet-flags f0 f1 f2 f3 f4 f5 h1 h2 h3 h5 =
-    let a = f0 * 16 + f1 / 16 in
-    let b = f2 * 16 + f3 / 16 in
-    let c = f4 * 16 + f5 / 16 in
-    let d = (f1 % 16 * 16 + f3 % 16) * 16 + f5 % 16 in
+    let rows = inRows (λ f g. (f * 16 + g) ∷ []) f0 f1 f2 f3 f4 f5 in
+    let a = getD rows 0 0 in
+    let b = getD rows 1 0 in
+    let c = getD rows 2 0 in
+    let d = getD rows 3 0 in
     let upper : upper24 (f0 ∷ f1 ∷ f2 ∷ f3 ∷ f4 ∷ f5 ∷ []) ≡ a * 4096 + b = omega arith in
     let lower : lower24 (f0 ∷ f1 ∷ f2 ∷ f3 ∷ f4 ∷ f5 ∷ []) ≡ c * 4096 + d = omega arith in
     rw (ap (digits 3 8) upper, ap (digits 3 8) lower, two-rows a b (omega arith), two-rows c d (omega arith))
     (sym (append-assoc (digits 3 4 a ++ digits 3 4 b) (digits 3 4 c) (digits 3 4 d)))
 
+-- rows that agree for every byte and half-byte make blocks that agree
+four-alike : {a b c d a' b' c' d' : List ℕ} → a ≡ a' → b ≡ b' → c ≡ c' → d ≡ d' → a ++ b ++ c ++ d ≡ a' ++ b' ++ c' ++ d'
+four-alike p q r s = (λ i. p i ++ q i ++ r i ++ s i)
+
+in-rows : {row row' : ℕ → ℕ → List ℕ} → ((f g : ℕ) → f < 256 → g < 16 → row f g ≡ row' f g)
+    → (f0 f1 f2 f3 f4 f5 : ℕ) → f0 < 256 → f1 < 256 → f2 < 256 → f3 < 256 → f4 < 256 → f5 < 256
+    → inRows row f0 f1 f2 f3 f4 f5 ≡ inRows row' f0 f1 f2 f3 f4 f5
+in-rows e f0 f1 f2 f3 f4 f5 h0 h1 h2 h3 h4 h5 =
+    four-alike (e _ _ h0 (omega arith)) (e _ _ h2 (omega arith)) (e _ _ h4 (omega arith)) (e _ _ (omega arith) (omega arith))
+
 pub octet-step : OctetStep
 unfolding flags if
 octet-step f0 f1 f2 f3 f4 f5 h0 h1 h2 h3 h4 h5 =
-    let a = octet-row f0 (f1 / 16) h0 (omega arith) in
-    let b = octet-row f2 (f3 / 16) h2 (omega arith) in
-    let c = octet-row f4 (f5 / 16) h4 (omega arith) in
-    let d = octet-row (f1 % 16 * 16 + f3 % 16) (f5 % 16) (omega arith) (omega arith) in
-    (λ i. a i ++ b i ++ c i ++ d i) ∙ sym (octet-flags f0 f1 f2 f3 f4 f5 h1 h2 h3 h5)
+    in-rows octet-row f0 f1 f2 f3 f4 f5 h0 h1 h2 h3 h4 h5 ∙ sym (octet-flags f0 f1 f2 f3 f4 f5 h1 h2 h3 h5)
