@@ -46,7 +46,7 @@ in-rows : {row row' : ℕ → ℕ → List ℕ} → ((f g : ℕ) → f < 256 →
     → (f0 f1 f2 f3 f4 f5 : ℕ) → f0 < 256 → f1 < 256 → f2 < 256 → f3 < 256 → f4 < 256 → f5 < 256
     → inRows row f0 f1 f2 f3 f4 f5 ≡ inRows row' f0 f1 f2 f3 f4 f5
 in-rows e f0 f1 f2 f3 f4 f5 h0 h1 h2 h3 h4 h5 =
-    four-alike (e _ _ h0 (omega arith)) (e _ _ h2 (omega arith)) (e _ _ h4 (omega arith)) (e _ _ (omega arith) (omega arith))
+    four-alike (e _ _ (omega arith) (omega arith)) (e _ _ (omega arith) (omega arith)) (e _ _ (omega arith) (omega arith)) (e _ _ (omega arith) (omega arith))
 
 pub octet-step : OctetStep
 unfolding flags if
