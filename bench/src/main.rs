@@ -11,7 +11,7 @@
 //! function that is measured is called for nothing else, so that it alone can be looked at:
 //!
 //! ```text
-//! valgrind --tool=callgrind --toggle-collect=seatboard_read_chunk target/cargo/release/bench --count a
+//! valgrind --tool=callgrind --toggle-collect=seatboard_v2_read_chunk target/cargo/release/bench --count a
 //! ```
 
 #[cfg_attr(not(ffmpeg), path = "without_ffmpeg.rs")]

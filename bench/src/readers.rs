@@ -1,8 +1,10 @@
 //! Reading chunks at 320x200, in order as a board does: ours, the second reader, FFmpeg's decoder.
 
+use std::fmt::Debug;
 use std::rc::Rc;
 
-use second::reader;
+use seatboard::{Record, Refused};
+use second::reader::{self, Refusal};
 
 use crate::beside;
 use crate::contest::{Contest, Contestant, Made};
@@ -40,46 +42,52 @@ pub fn dense(title: &str, weights: &Weights, aim: f64) -> Contest {
 fn contest(title: &str, reading: Reading, aim: f64, strict: bool) -> Contest {
     let reading = Rc::new(reading);
     let mut contestants: Vec<Box<dyn Contestant>> = vec![
-        Box::new(Reader::new("ours", ours, &reading)),
-        Box::new(Reader::new("second", second, &reading)),
+        Box::new(Reader::new("ours", OURS, &reading)),
+        Box::new(Reader::new("second", SECOND, &reading)),
     ];
     contestants.extend(beside::reader(&reading));
     story::contest(title, aim, strict, contestants)
 }
 
-/// A chunk, a picture and a map, at the one size.
-type Read = fn(&[u8], &mut [u8], &mut [u16]);
+/// A fresh start and the reading of a chunk, by a record of its own.
+struct Calls<R, E> {
+    fresh_map: fn(&mut [u16]) -> Result<R, E>,
+    read: fn(&mut R, &[u8], &mut [u8], &mut [u16]),
+}
 
-struct Reader {
+/// Keeps picture, map and record together.
+struct Reader<R, E> {
     name: &'static str,
-    read: Read,
+    calls: Calls<R, E>,
     reading: Rc<Reading>,
     picture: Vec<u8>,
     map: Vec<u16>,
+    record: R,
 }
 
-impl Reader {
-    fn new(name: &'static str, read: Read, reading: &Rc<Reading>) -> Self {
+impl<R, E: Debug> Reader<R, E> {
+    fn new(name: &'static str, calls: Calls<R, E>, reading: &Rc<Reading>) -> Self {
         let mut map = vec![0; SIZE.blocks()];
-        seatboard::fresh_map(SIZE, &mut map).expect("the map fits");
+        let record = (calls.fresh_map)(&mut map).expect("the map fits");
         Reader {
             name,
-            read,
+            calls,
             reading: Rc::clone(reading),
             picture: reading.start.clone(),
             map,
+            record,
         }
     }
 }
 
-impl Contestant for Reader {
+impl<R, E> Contestant for Reader<R, E> {
     fn name(&self) -> &'static str {
         self.name
     }
 
     fn work(&mut self, piece: usize) {
         let chunk = &self.reading.chunks[piece];
-        (self.read)(chunk, &mut self.picture, &mut self.map);
+        (self.calls.read)(&mut self.record, chunk, &mut self.picture, &mut self.map);
     }
 
     fn made(&self, piece: usize) -> Made {
@@ -90,10 +98,16 @@ impl Contestant for Reader {
     }
 }
 
-fn ours(chunk: &[u8], picture: &mut [u8], map: &mut [u16]) {
-    seatboard::read_chunk(SIZE, chunk, picture, map).expect("the chunk is accepted");
-}
+const OURS: Calls<Record, Refused> = Calls {
+    fresh_map: |map| seatboard::fresh_map(SIZE, map),
+    read: |record, chunk, picture, map| {
+        seatboard::read_chunk(record, chunk, picture, map).expect("the chunk is accepted");
+    },
+};
 
-fn second(chunk: &[u8], picture: &mut [u8], map: &mut [u16]) {
-    reader::read_chunk(WIDTH_AND_HEIGHT, chunk, picture, map).expect("the chunk is accepted");
-}
+const SECOND: Calls<reader::Record, Refusal> = Calls {
+    fresh_map: |map| reader::fresh_map(WIDTH_AND_HEIGHT, map),
+    read: |record, chunk, picture, map| {
+        reader::read_chunk(record, chunk, picture, map).expect("the chunk is accepted");
+    },
+};

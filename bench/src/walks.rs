@@ -1,12 +1,14 @@
 //! Walking the feed of a whole day at 320x200: ours and the second walk, which besides counts the
-//! unsettled blocks after each chunk. FFmpeg knows no such feed.
+//! unsettled blocks of the map after each chunk. FFmpeg knows no such feed.
 
 use std::rc::Rc;
 
+use seatboard::Board;
+use second::reader::{self, Record};
 use second::walk::{self, Walk};
 
 use crate::contest::{Contest, Contestant, Made};
-use crate::hall::{Hall, SIZE};
+use crate::hall::{Hall, SIZE, WIDTH_AND_HEIGHT};
 use crate::random::Random;
 use crate::story::{drawn_whole, packed};
 use crate::SEED;
@@ -78,7 +80,7 @@ fn damaged(random: &mut Random, chunk: &[u8]) -> Vec<u8> {
 
 pub fn contest(name: &'static str) -> Contest {
     let day = Rc::new(Day::new(&mut Random::for_case(SEED, u64::MAX - 1)));
-    let walk = Second(Lent::new(&day)).walk();
+    let walk = Second::new(&day).walk();
     let refused = walk.chunks.iter().filter(|chunk| chunk.number != 0);
     Contest {
         title: format!("{name}: a day's feed, {} chunks refused", refused.count()),
@@ -87,39 +89,23 @@ pub fn contest(name: &'static str) -> Contest {
         bytes: day.feed.len(),
         aim: None,
         strict: true,
-        contestants: vec![
-            Box::new(Ours(Lent::new(&day))),
-            Box::new(Second(Lent::new(&day))),
-        ],
+        contestants: vec![Box::new(Ours::new(&day)), Box::new(Second::new(&day))],
     }
 }
 
-struct Lent {
+struct Ours {
     day: Rc<Day>,
-    picture: Vec<u8>,
-    map: Vec<u16>,
+    board: Board,
 }
 
-impl Lent {
+impl Ours {
     fn new(day: &Rc<Day>) -> Self {
-        let mut map = vec![0; SIZE.blocks()];
-        seatboard::fresh_map(SIZE, &mut map).expect("the map fits");
-        Lent {
+        Ours {
             day: Rc::clone(day),
-            picture: vec![0; SIZE.pixels()],
-            map,
-        }
-    }
-
-    fn made(&self) -> Made {
-        Made {
-            picture: self.picture.clone(),
-            bytes: self.day.feed.len(),
+            board: Board::new(SIZE).expect("an allowed size"),
         }
     }
 }
-
-struct Ours(Lent);
 
 impl Contestant for Ours {
     fn name(&self) -> &'static str {
@@ -127,21 +113,41 @@ impl Contestant for Ours {
     }
 
     fn work(&mut self, _: usize) {
-        let Lent { day, picture, map } = &mut self.0;
-        seatboard::walk_feed(&day.feed, picture, map).expect("the feed is whole");
+        let walked = self.board.walk_feed(&self.day.feed);
+        walked.expect("the feed is whole");
     }
 
     fn made(&self, _: usize) -> Made {
-        self.0.made()
+        Made {
+            picture: self.board.picture().to_vec(),
+            bytes: self.day.feed.len(),
+        }
     }
 }
 
-struct Second(Lent);
+/// Keeps picture, map and record together, as a board does.
+struct Second {
+    day: Rc<Day>,
+    picture: Vec<u8>,
+    map: Vec<u16>,
+    record: Record,
+}
 
 impl Second {
+    fn new(day: &Rc<Day>) -> Self {
+        let mut map = vec![0; SIZE.blocks()];
+        let record = reader::fresh_map(WIDTH_AND_HEIGHT, &mut map).expect("the map fits");
+        Second {
+            day: Rc::clone(day),
+            picture: vec![0; SIZE.pixels()],
+            map,
+            record,
+        }
+    }
+
     fn walk(&mut self) -> Walk {
-        let Lent { day, picture, map } = &mut self.0;
-        walk::walk(&day.feed, picture, map)
+        let (picture, map) = (&mut self.picture, &mut self.map);
+        walk::walk(&mut self.record, &self.day.feed, picture, map)
     }
 }
 
@@ -155,6 +161,9 @@ impl Contestant for Second {
     }
 
     fn made(&self, _: usize) -> Made {
-        self.0.made()
+        Made {
+            picture: self.picture.clone(),
+            bytes: self.day.feed.len(),
+        }
     }
 }

@@ -3,6 +3,7 @@
 
 use std::rc::Rc;
 
+use seatboard::Record;
 use second::writer;
 
 use crate::beside;
@@ -33,8 +34,12 @@ fn chunk_length(story: &Story, pair: usize) -> usize {
 pub fn read_back(story: &Story, pair: usize, chunk: &[u8]) -> Made {
     let mut picture = story.before(pair).to_vec();
     let mut map = vec![0; SIZE.blocks()];
+    let mut record = Record {
+        size: SIZE,
+        unsettled: map.len(),
+    };
     // The old picture is left by a chunk that is refused, and that shows as not agreeing.
-    let _ = seatboard::read_chunk(SIZE, chunk, &mut picture, &mut map);
+    let _ = seatboard::read_chunk(&mut record, chunk, &mut picture, &mut map);
     Made {
         picture,
         bytes: chunk.len(),

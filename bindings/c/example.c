@@ -1,5 +1,5 @@
-/* Gets a picture out of two chunks, shows which blocks can be trusted, writes a chunk of its own, walks a feed and a
- * run, and paints a symbol.
+/* Gets a picture out of chunks, shows how many blocks cannot be trusted, writes a chunk of its own, walks a feed and a
+ * run, and paints a symbol. Picture, map and record are kept together: whatever reads chunks is lent all three.
  * cc example.c libseatboard.a -o example && ./example */
 #include <stdio.h>
 #include <string.h>
@@ -15,6 +15,14 @@ static void show(const char *call, struct seatboard_answer answer)
     printf("%s: %u at %zu, block %zu\n", call, answer.number, answer.place, answer.block);
 }
 
+/* What the call has handed back, to be lent to the next. */
+static struct seatboard_record kept(const char *call, struct seatboard_recorded said)
+{
+    show(call, said.answer);
+    printf("unsettled: %zu\n", said.record.unsettled);
+    return said.record;
+}
+
 static void print_picture(const uint8_t *picture)
 {
     for (int y = 0; y < HEIGHT; y++) {
@@ -24,16 +32,26 @@ static void print_picture(const uint8_t *picture)
     }
 }
 
-/* Chunks that have waited, handed over at once: each behind its length, and the size beside them. The second one is
+/* Chunks that have waited, handed over at once: each behind its length, and the record beside them. The second one is
  * refused; it changes nothing, does not count, and does not end the run. */
-static void walk_run(uint8_t *picture, uint16_t *map)
+static void walk_run(struct seatboard_record record, uint8_t *picture, uint16_t *map)
 {
     const uint8_t run[] = {7, 0xE1, 0, 0, 7, 0x02, 0x60, 6,
                            5, 0xE1, 0, 0, 5, 0x23,
                            7, 0xE1, 0, 0, 7, 0x60, 2, 0x02};
-    struct seatboard_tally tally = seatboard_walk_run(size, run, sizeof run, picture, PIXELS, map, BLOCKS);
+    struct seatboard_tally tally = seatboard_walk_run(record, run, sizeof run, picture, PIXELS, map, BLOCKS);
     show("walk run", tally.answer);
-    printf("accepted: %zu\n", tally.accepted);
+    printf("accepted: %zu, unsettled: %zu\n", tally.accepted, tally.record.unsettled);
+}
+
+/* A record that nobody has kept: all blocks are settled, and it says that one more than all of them is not. The chunk
+ * would change nothing, and is refused all the same. */
+static void lend_untrue_record(uint8_t *picture, uint16_t *map)
+{
+    const struct seatboard_record untrue = {size, BLOCKS + 1};
+    const uint8_t keep[] = {0xE1, 0, 0, 5, 0x03};
+    kept("read by an untrue record",
+         seatboard_read_chunk(untrue, keep, sizeof keep, picture, PIXELS, map, BLOCKS));
 }
 
 /* On a copy, so that the held picture stays as its map says. */
@@ -58,30 +76,32 @@ int main(void)
 {
     uint8_t picture[PIXELS] = {0};
     uint16_t map[BLOCKS];
-    show("fresh map", seatboard_fresh_map(size, map, BLOCKS));
+    struct seatboard_record record = kept("fresh map", seatboard_fresh_map(size, map, BLOCKS));
 
     /* two blocks kept, one of colour 5, one of colours 3 and 7 by flags */
     const uint8_t chunk[] = {0xE1, 0, 0, 12, 0x01, 0x60, 5, 0x80, 3, 7, 0x00, 0x0F};
-    show("read chunk", seatboard_read_chunk(size, chunk, sizeof chunk, picture, PIXELS, map, BLOCKS));
+    record = kept("read chunk", seatboard_read_chunk(record, chunk, sizeof chunk, picture, PIXELS, map, BLOCKS));
     print_picture(picture);
-    printf("unsettled: %zu\n", seatboard_count(size, map, BLOCKS).unsettled);
+    printf("counted afresh: %zu\n", seatboard_count(size, map, BLOCKS).unsettled);
 
     /* a chunk that keeps block 0, and for block 1 asks for the one two before: refused, and nothing has changed */
     const uint8_t bad[] = {0xE1, 0, 0, 6, 0x00, 0x40};
-    show("read a bad chunk", seatboard_read_chunk(size, bad, sizeof bad, picture, PIXELS, map, BLOCKS));
+    record = kept("read a bad chunk", seatboard_read_chunk(record, bad, sizeof bad, picture, PIXELS, map, BLOCKS));
 
     uint8_t wanted[PIXELS], output[SEATBOARD_LONGEST_CHUNK(WIDTH, HEIGHT)];
     memset(wanted, 9, PIXELS);
     struct seatboard_answer written =
         seatboard_write_chunk(size, picture, PIXELS, wanted, PIXELS, output, sizeof output);
     show("write chunk", written);
-    show("read it back", seatboard_read_chunk(size, output, written.place, picture, PIXELS, map, BLOCKS));
+    record = kept("read it back",
+                  seatboard_read_chunk(record, output, written.place, picture, PIXELS, map, BLOCKS));
     printf("the wanted picture: %s\n", memcmp(picture, wanted, PIXELS) == 0 ? "yes" : "no");
 
-    /* a feed: width / 4, height / 4, then each chunk behind its length */
+    /* a feed: width / 4, height / 4, which must be the record's size, then each chunk behind its length */
     const uint8_t feed[] = {2, 2, 6, 0xE1, 0, 0, 6, 0x63, 4};
-    show("walk feed", seatboard_walk_feed(feed, sizeof feed, picture, PIXELS, map, BLOCKS));
-    walk_run(picture, map);
+    record = kept("walk feed", seatboard_walk_feed(record, feed, sizeof feed, picture, PIXELS, map, BLOCKS));
+    walk_run(record, picture, map);
+    lend_untrue_record(picture, map);
     paint_symbol(picture);
     return 0;
 }

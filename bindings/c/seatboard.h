@@ -1,14 +1,15 @@
 /*
  * seatboard.h - the proved picture codec of the seat boards: SMC chunks read and written, the map that says which blocks
- * of a picture can be trusted, the walk of the house feed and of a run of chunks, and seat symbols painted on a shown
- * picture. Link with libseatboard.a. For x86-64 Linux, C99 or C++.
+ * of a picture can be trusted and the record that keeps how many cannot, the walk of the house feed and of a run of
+ * chunks, and seat symbols painted on a shown picture. Link with libseatboard.a. For x86-64 Linux, C99 or C++, GCC or
+ * Clang.
  *
  * What the library promises
  *   Whatever bytes and lengths it is lent, every call comes back with one of the numbers below. It reads and writes
  *   nothing but what it is lent, keeps no pointer, allocates nothing, and has no state of its own: threads may call it
  *   at once, each with its own buffers. It calls nothing but memcpy and memset, and needs at most 16 KiB of stack.
- *   A refused call leaves all that it was lent as it was; the one exception stands at seatboard_walk_feed and
- *   seatboard_walk_run.
+ *   A refused call leaves all that it was lent as it was, and hands back the record that it was lent; the one exception
+ *   stands at seatboard_walk_feed and seatboard_walk_run.
  *
  * What the caller owes (nothing checks it)
  *   - Each pointer is good for as many elements as the length after it says, for reading, and for writing where it is not
@@ -18,12 +19,22 @@
  *   - A map is aligned for uint16_t, as any array of uint16_t is.
  *   - No other thread touches the buffers during the call.
  *   - For the map to stay true, symbols are painted on a copy of the held picture: see seatboard_paint_symbol.
+ *   - For the record to stay true, each call is lent the one that the call before handed back, with the same picture and
+ *     map: see below.
  *
  * Picture, blocks, map
  *   One byte a pixel, row after row: a picture of width x height bytes. Width and height are multiples of 4, width 4 to
  *   320, height 4 to 200. Blocks are 4 by 4 pixels, numbered from 0, left to right, then down. A map has one entry a
  *   block: SEATBOARD_SETTLED where the block's pixels do not depend on the starting picture, otherwise the number of the
  *   block of the starting picture whose pixels it shows. Any numbers may be lent; they are moved and never refused.
+ *
+ * Record
+ *   What is kept beside a picture and its map: the size, and how many entries of the map are unsettled, so that nobody
+ *   has to count them. seatboard_fresh_map gives a fresh map its record. Whatever reads chunks is lent the record by
+ *   value, and hands it back with the answer as it is then: keep that one, whatever the answer. Then its count is always
+ *   that of seatboard_count. A record with any other count may be lent; every accepted chunk adds the blocks that it
+ *   unsettles and takes away those that it settles, and a chunk after which the count would be below 0 or above the
+ *   number of blocks is refused with 21. With records that are kept as said 21 is never given.
  */
 #ifndef SEATBOARD_H
 #define SEATBOARD_H
@@ -34,6 +45,13 @@
 #ifdef __cplusplus
 extern "C" {
 #endif
+
+/* The number of this interface: it is raised where a function or a struct changes. The library's symbols have it in their
+ * names, so that a program built by the header of another interface does not link. */
+#define SEATBOARD_INTERFACE 2
+#define SEATBOARD_QUOTED(number) #number
+#define SEATBOARD_NAMED(number, name) __asm__("seatboard_v" SEATBOARD_QUOTED(number) "_" name)
+#define SEATBOARD_SYMBOL(name) SEATBOARD_NAMED(SEATBOARD_INTERFACE, name)
 
 /* A map's entry of a settled block. */
 #define SEATBOARD_SETTLED 65535
@@ -50,7 +68,7 @@ extern "C" {
 
 /* The numbers that a call answers with, and the place that comes with each. Places count bytes from 0 at the chunk's
  * first byte, and for a walk's own 0, 12 and 13 at the feed's or the run's. They are looked for in this order: 1, 2, 3,
- * 4, then opcode by opcode, 11 last. Of a symbol: 1, 2, 15, 16, 17, then row by row 18 and 19, 20 last.
+ * 4, then opcode by opcode, 11, and 21 last. Of a symbol: 1, 2, 15, 16, 17, then row by row 18 and 19, 20 last.
  * Padding, one to three bytes after a chunk's last block that are all zero, is accepted. It counts in the length that the
  * chunk states, in the one that a feed or run has before it, and in the place of 0.
  * The block that comes with each: the number of blocks for 0 and 11; for 5 to 10 the first block still waiting at that
@@ -59,7 +77,8 @@ enum {
     SEATBOARD_OK = 0,              /* accepted; the place is the length of the chunk, feed or run read, padding included,
                                       or of the chunk written, and 0 for fresh map, count and symbol */
     SEATBOARD_BAD_SIZE = 1,        /* width or height not allowed; 0 */
-    SEATBOARD_BAD_LENGTH = 2,      /* a lent picture or map is not of the exact length; 0 */
+    SEATBOARD_BAD_LENGTH = 2,      /* a lent picture or map is not of the exact length, or a feed's size is not the
+                                      record's; 0 */
     SEATBOARD_CHUNK_SHORT = 3,     /* chunk under 4 bytes; 0 */
     SEATBOARD_LENGTH_DIFFERS = 4,  /* the chunk's stated length differs from the bytes given; 0 */
     SEATBOARD_BLOCKS_REMAIN = 5,   /* bytes end before an opcode, blocks remain; the chunk's length */
@@ -82,7 +101,8 @@ enum {
                                       the bytes; 0 */
     SEATBOARD_BAD_SEGMENT = 19,    /* a segment of another code, past its row's count or past the width, or a byte of
                                       the row left over; 0 */
-    SEATBOARD_NO_END_MARKER = 20   /* rows done, the next two bytes are not 05 00; 0 */
+    SEATBOARD_NO_END_MARKER = 20,  /* rows done, the next two bytes are not 05 00; 0 */
+    SEATBOARD_BAD_COUNT = 21       /* the record's count would fall below 0 or above the number of blocks; 0 */
 };
 
 struct seatboard_size {
@@ -95,6 +115,16 @@ struct seatboard_answer {
     size_t block;
 };
 
+struct seatboard_record {
+    struct seatboard_size size;
+    size_t unsettled; /* how many entries of the map are not SEATBOARD_SETTLED */
+};
+
+struct seatboard_recorded {
+    struct seatboard_answer answer;
+    struct seatboard_record record; /* as it is after the call */
+};
+
 struct seatboard_count {
     struct seatboard_answer answer;
     size_t unsettled; /* 0 where the count was refused */
@@ -103,37 +133,46 @@ struct seatboard_count {
 struct seatboard_tally {
     struct seatboard_answer answer;
     size_t accepted; /* how many chunks were accepted; 0 where the answer is 1 or 2 */
+    struct seatboard_record record; /* as it is after the call */
 };
 
-/* Makes a fresh map: entry k is k. Answers 0, 1 or 2. */
-struct seatboard_answer seatboard_fresh_map(struct seatboard_size size, uint16_t *map, size_t map_length);
+/* Makes a fresh map: entry k is k; and gives its record: the size and the number of blocks. Answers 0, 1 or 2; on 1 and 2
+ * the record has the lent size and count 0. */
+struct seatboard_recorded seatboard_fresh_map(struct seatboard_size size, uint16_t *map, size_t map_length)
+    SEATBOARD_SYMBOL("fresh_map");
 
 /* Counts the entries that are not SEATBOARD_SETTLED. Answers 0, 1 or 2. */
-struct seatboard_count seatboard_count(struct seatboard_size size, const uint16_t *map, size_t map_length);
+struct seatboard_count seatboard_count(struct seatboard_size size, const uint16_t *map, size_t map_length)
+    SEATBOARD_SYMBOL("count");
 
-/* Reads a chunk over a picture and its map. The chunk is checked whole before anything is painted. Answers 0 to 11. */
-struct seatboard_answer seatboard_read_chunk(struct seatboard_size size, const uint8_t *chunk, size_t chunk_length,
-                                             uint8_t *picture, size_t picture_length, uint16_t *map, size_t map_length);
+/* Reads a chunk over a picture and its map. The chunk is checked whole before anything is painted. Answers 0 to 11, or
+ * 21. */
+struct seatboard_recorded seatboard_read_chunk(struct seatboard_record record, const uint8_t *chunk,
+                                               size_t chunk_length, uint8_t *picture, size_t picture_length,
+                                               uint16_t *map, size_t map_length) SEATBOARD_SYMBOL("read_chunk");
 
 /* Writes the chunk that makes the new picture out of the old one to the start of the output, without padding, and leaves
  * the rest of the output as it was. SEATBOARD_LONGEST_CHUNK bytes always suffice; with fewer the chunk is measured
  * first, which takes about as long again. Answers 0, 1, 2 or 14. */
 struct seatboard_answer seatboard_write_chunk(struct seatboard_size size, const uint8_t *old_picture, size_t old_length,
                                               const uint8_t *new_picture, size_t new_length, uint8_t *output,
-                                              size_t output_length);
+                                              size_t output_length) SEATBOARD_SYMBOL("write_chunk");
 
-/* Walks a feed, which begins with its size, over a picture and its map: each chunk in turn, as by seatboard_read_chunk.
- * A refused chunk changes nothing and does not end the walk. Answers 0, 1, 2, 12 or 13; a walk that ends in 12 or 13
- * leaves what the chunks accepted before that made. */
-struct seatboard_answer seatboard_walk_feed(const uint8_t *feed, size_t feed_length, uint8_t *picture,
-                                            size_t picture_length, uint16_t *map, size_t map_length);
+/* Walks a feed, which begins with its size, over a picture and its map: each chunk in turn, as by seatboard_read_chunk,
+ * with the record that the one before it left. A refused chunk, by 21 too, changes nothing and does not end the walk.
+ * Answers 0, 1, 2, 12 or 13: 1 is for the feed's own size, and 2 also for one that is not the record's. A walk that ends
+ * in 12 or 13 leaves what the chunks accepted before that made, and hands back the record that goes with it. */
+struct seatboard_recorded seatboard_walk_feed(struct seatboard_record record, const uint8_t *feed, size_t feed_length,
+                                              uint8_t *picture, size_t picture_length, uint16_t *map,
+                                              size_t map_length) SEATBOARD_SYMBOL("walk_feed");
 
 /* Walks a run, which is what a feed has behind its size numbers: for each chunk its length and the chunk. Each chunk in
- * turn, as by seatboard_read_chunk, and the accepted ones are counted. A refused chunk changes nothing and does not end
- * the walk. Answers 0, 1, 2, 12 or 13; a walk that ends in 12 or 13 leaves what the chunks accepted before that made,
- * and counts them. */
-struct seatboard_tally seatboard_walk_run(struct seatboard_size size, const uint8_t *run, size_t run_length,
-                                          uint8_t *picture, size_t picture_length, uint16_t *map, size_t map_length);
+ * turn, as by seatboard_read_chunk, with the record that the one before it left, and the accepted ones are counted. A
+ * refused chunk, by 21 too, changes nothing and does not end the walk. Answers 0, 1, 2, 12 or 13; a walk that ends in 12
+ * or 13 leaves what the chunks accepted before that made, counts them, and hands back the record that goes with it. */
+struct seatboard_tally seatboard_walk_run(struct seatboard_record record, const uint8_t *run, size_t run_length,
+                                          uint8_t *picture, size_t picture_length, uint16_t *map, size_t map_length)
+    SEATBOARD_SYMBOL("walk_run");
 
 /* Paints a frame of an SPR# file, numbered from 0, on a shown picture. The frame's upper left pixel falls on column
  * left, row top, which may lie off the picture; pixels off it are dropped, and background leaves the picture's pixel.
@@ -142,7 +181,7 @@ struct seatboard_tally seatboard_walk_run(struct seatboard_size size, const uint
  * first and paint on the copy: then the held picture and its map stay true to each other. */
 struct seatboard_answer seatboard_paint_symbol(struct seatboard_size size, uint8_t *picture, size_t picture_length,
                                                const uint8_t *file, size_t file_length, size_t frame, int16_t left,
-                                               int16_t top);
+                                               int16_t top) SEATBOARD_SYMBOL("paint_symbol");
 
 #ifdef __cplusplus
 }

@@ -5,6 +5,7 @@
  *   picture         a byte: pixel k starts as k times that
  *   calls           a byte each, CALL and flags below, and what that call takes:
  *     any call that is ODD   a size and lengths that need not be allowed: see odd_board
+ *     any that is UNTRUE     a byte for the record's count: see untrue_count. It stays as the call leaves it
  *     READ, WALK, RUN        a length, two bytes, lowest first, and as many bytes
  *     WRITE                  the output's room and the new picture: see write_call
  *     NUMBERS                a length and bytes, which become the map, over and over
@@ -26,7 +27,8 @@ enum {
     OVERLAP = 32, /* the new picture starts in the old one */
     HEAD = 32,    /* the symbol file gets a head */
     CLOSE = 64,   /* the chunk is made one that is accepted */
-    HIGHEST = 64  /* that head has its highest bytes first */
+    HIGHEST = 64, /* that head has its highest bytes first */
+    UNTRUE = 128
 };
 
 struct input {
@@ -93,6 +95,19 @@ static void odd_board(struct input *in)
     board.blocks = odd_length(lengths >> 3, board.blocks, product / 16);
 }
 
+/* A count of its kind: by that of a true record, by the number of blocks, by what it was, or very great. */
+static void untrue_count(struct input *in)
+{
+    size_t before = board.unsettled;
+    make_true(&board);
+    const size_t count = board.unsettled, blocks = board.blocks;
+    const size_t counts[] = {
+        0, count - 1, count + 1, blocks, blocks + 1, SIZE_MAX, count, before, 2 * blocks, SIZE_MAX - 1, BIT(16) + count,
+        BIT(32) + count, before - 1, before + 1, BIT(63) + count, SIZE_MAX - blocks,
+    };
+    board.unsettled = counts[next(in) % (sizeof counts / sizeof *counts)];
+}
+
 /* ---- chunks, feeds and runs ---- */
 
 /* Makes a chunk that is accepted: what is refused is cut off, and the blocks that remain are skipped. */
@@ -100,10 +115,10 @@ static size_t close_chunk(uint8_t *chunk, size_t length)
 {
     size_t skip = 256;
     copy_board(&trial, &board); /* a refused chunk changes nothing, and an accepted one is the last */
+    make_true(&trial);
     for (int turn = 0; turn < 200; turn++) {
         state_length(chunk, length);
-        struct seatboard_answer said =
-            seatboard_read_chunk(trial.size, chunk, length, trial.picture, trial.pixels, trial.map, trial.blocks);
+        struct seatboard_answer said = read_bare(&trial, chunk, length);
         if (said.number <= SEATBOARD_LENGTH_DIFFERS)
             break;
         if (said.number == SEATBOARD_BLOCKS_REMAIN) {
@@ -192,6 +207,7 @@ static void numbers_call(struct input *in)
     size_t length = next_bytes(in, bytes);
     for (size_t k = 0; length > 0 && k < board.blocks && k < MAX_BLOCKS; k++)
         board.map[k] = (uint16_t)(bytes[2 * k % length] | bytes[(2 * k + 1) % length] << 8);
+    make_true(&board);
 }
 
 /* ---- symbols ---- */
@@ -233,6 +249,8 @@ static void one_call(struct input *in)
     lend_early = how & EARLY;
     if (how & ODD)
         odd_board(in);
+    if (how & UNTRUE)
+        untrue_count(in);
     switch (how & CALL) {
     case FRESH_MAP: try_fresh_map(&board); break;
     case COUNT: try_count(&board); break;
@@ -246,6 +264,8 @@ static void one_call(struct input *in)
     board.size = size;
     board.pixels = pixels;
     board.blocks = blocks;
+    if (how & ODD)
+        make_true(&board); /* the call may have counted other blocks */
 }
 
 void attack(const uint8_t *input, size_t length)
@@ -263,6 +283,7 @@ void attack(const uint8_t *input, size_t length)
         board.picture[k] = (uint8_t)(k * step);
     for (size_t k = 0; k < board.blocks; k++)
         board.map[k] = (uint16_t)k;
+    board.unsettled = board.blocks;
     for (int calls = 0; in.at < in.end && calls < 8; calls++)
         one_call(&in);
 }

@@ -76,6 +76,7 @@ static void from_generator(uint64_t first, uint64_t count)
         attack(input, made_input(number, input));
     }
     printf("%zu seeds and %llu made inputs\n", seeds, (unsigned long long)count);
+    printf("21, the count below 0: %zu\n21, the count above the number of blocks: %zu\n", fallen_below, risen_above);
 }
 
 static int write_seeds(const char *folder)

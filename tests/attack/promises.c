@@ -13,7 +13,11 @@
 #define OUTPUT_BYTE 0xC3
 
 typedef struct seatboard_answer Answer;
+typedef struct seatboard_record Record;
+typedef struct seatboard_recorded Recorded;
 typedef struct seatboard_tally Tally;
+
+size_t fallen_below, risen_above;
 
 static struct board start, twin; /* the board that a call is given, and another to try the like on */
 static struct board bare;        /* what a chunk without padding leaves */
@@ -52,16 +56,59 @@ unsigned board_refusal(const struct board *board)
 void copy_board(struct board *to, const struct board *from)
 {
     to->size = from->size;
+    to->unsettled = from->unsettled;
     to->pixels = from->pixels;
     to->blocks = from->blocks;
     memcpy(to->picture, from->picture, from->pixels);
     memcpy(to->map, from->map, from->blocks * sizeof *from->map);
 }
 
-static bool same_board(const struct board *a, const struct board *b)
+static bool same_size(struct seatboard_size a, struct seatboard_size b)
+{
+    return a.width == b.width && a.height == b.height;
+}
+
+static bool same_record(Record a, Record b)
+{
+    return same_size(a.size, b.size) && a.unsettled == b.unsettled;
+}
+
+/* Whatever their records say. */
+static bool same_buffers(const struct board *a, const struct board *b)
 {
     return memcmp(a->picture, b->picture, a->pixels) == 0 &&
            memcmp(a->map, b->map, a->blocks * sizeof *a->map) == 0;
+}
+
+static Record record_of(const struct board *board)
+{
+    return (Record){board->size, board->unsettled};
+}
+
+static bool same_board(const struct board *a, const struct board *b)
+{
+    return same_record(record_of(a), record_of(b)) && same_buffers(a, b);
+}
+
+/* The record that a call has handed back, whose size is always the lent one. */
+static void keep(struct board *board, Record record)
+{
+    PROMISE(same_size(record.size, board->size));
+    board->unsettled = record.unsettled;
+}
+
+/* What a true record says. */
+static size_t unsettled_of(const struct board *board)
+{
+    size_t unsettled = 0;
+    for (size_t k = 0; k < board->blocks; k++)
+        unsettled += board->map[k] != SEATBOARD_SETTLED;
+    return unsettled;
+}
+
+void make_true(struct board *board)
+{
+    board->unsettled = unsettled_of(board);
 }
 
 size_t corner_of(size_t block, size_t width)
@@ -105,25 +152,26 @@ void try_fresh_map(struct board *board)
 {
     struct loan map = lend_map(board);
     loan_blur(&map);
-    Answer said = seatboard_fresh_map(board->size, entries(&map), board->blocks);
-    PROMISE(same_answer(said, answered(map_refusal(board), 0, 0)));
-    PROMISE(said.number != 0 || loan_defined(&map, map.length));
+    Recorded said = seatboard_fresh_map(board->size, entries(&map), board->blocks);
+    bool made = said.answer.number == 0;
+    PROMISE(same_answer(said.answer, answered(map_refusal(board), 0, 0)));
+    PROMISE(same_record(said.record, (Record){board->size, made ? board->blocks : 0}));
+    PROMISE(!made || loan_defined(&map, map.length));
     loan_clear(&map);
-    PROMISE(loan_kept(&map, said.number == 0 ? map.length : 0));
+    PROMISE(loan_kept(&map, made ? map.length : 0));
     loan_end(&map, board->map);
-    for (size_t k = 0; said.number == 0 && k < board->blocks; k++)
+    for (size_t k = 0; made && k < board->blocks; k++)
         PROMISE(board->map[k] == k);
+    if (made)
+        keep(board, said.record);
 }
 
 void try_count(const struct board *board)
 {
     struct loan map = lend_const(MAP, board->map, board->blocks * sizeof *board->map);
     struct seatboard_count said = seatboard_count(board->size, entries(&map), board->blocks);
-    size_t unsettled = 0;
-    for (size_t k = 0; k < board->blocks; k++)
-        unsettled += board->map[k] != SEATBOARD_SETTLED;
     PROMISE(same_answer(said.answer, answered(map_refusal(board), 0, 0)));
-    PROMISE(said.unsettled == (said.answer.number == 0 ? unsettled : 0));
+    PROMISE(said.unsettled == (said.answer.number == 0 ? unsettled_of(board) : 0));
     PROMISE(loan_kept(&map, 0));
     loan_end(&map, NULL);
 }
@@ -134,27 +182,28 @@ struct loans {
     struct loan bytes, picture, map;
 };
 
-/* To memcheck, picture and map are undefined meanwhile: it would report a jump that depends on them. */
+/* To memcheck, the picture is undefined meanwhile: it would report a jump that depends on it. The map is not, since
+ * whether there is a 21 depends on it. */
 static struct loans lend_all(const struct board *board, const uint8_t *bytes, size_t length)
 {
     struct loans loans = {lend_const(CHUNK, bytes, length), lend(PICTURE, board->picture, board->pixels),
                           lend_map(board)};
     loan_blur(&loans.picture);
-    loan_blur(&loans.map);
     return loans;
 }
 
-/* Into the board, which the call may have changed or not. */
-static void take_back(struct loans *loans, struct board *board, bool may_change)
+/* Into the board, which the call may have changed or not, with the record that was handed back. */
+static void take_back(struct loans *loans, struct board *board, bool may_change, Record record)
 {
     loan_clear(&loans->picture);
-    loan_clear(&loans->map);
     PROMISE(loan_kept(&loans->bytes, 0));
     PROMISE(loan_kept(&loans->picture, may_change ? loans->picture.length : 0));
     PROMISE(loan_kept(&loans->map, may_change ? loans->map.length : 0));
+    PROMISE(may_change || same_record(record, record_of(board)));
     loan_end(&loans->bytes, NULL);
     loan_end(&loans->picture, board->picture);
     loan_end(&loans->map, board->map);
+    keep(board, record);
 }
 
 /* ---- reading ---- */
@@ -163,10 +212,18 @@ static void take_back(struct loans *loans, struct board *board, bool may_change)
 static Answer call_read(struct board *board, const uint8_t *chunk, size_t length)
 {
     struct loans l = lend_all(board, chunk, length);
-    Answer said = seatboard_read_chunk(board->size, l.bytes.lent, length, l.picture.lent, board->pixels,
-                                       entries(&l.map), board->blocks);
-    take_back(&l, board, said.number == 0);
-    return said;
+    Recorded said = seatboard_read_chunk(record_of(board), l.bytes.lent, length, l.picture.lent, board->pixels,
+                                         entries(&l.map), board->blocks);
+    take_back(&l, board, said.answer.number == 0, said.record);
+    return said.answer;
+}
+
+Answer read_bare(struct board *board, const uint8_t *chunk, size_t length)
+{
+    Recorded said = seatboard_read_chunk(record_of(board), chunk, length, board->picture, board->pixels, board->map,
+                                         board->blocks);
+    keep(board, said.record);
+    return said.answer;
 }
 
 /* 1 to 4, which no opcode has a say in, or 0. */
@@ -190,6 +247,8 @@ static bool padding(const uint8_t *bytes, size_t length)
 /* Can this number be given at this place, with that opcode there? */
 static bool place_promised(Answer said, const uint8_t *chunk, size_t length)
 {
+    if (said.number == SEATBOARD_BAD_COUNT)
+        return said.place == 0;
     if (said.number <= SEATBOARD_BLOCKS_REMAIN)
         return said.place == (said.number == SEATBOARD_OK || said.number == SEATBOARD_BLOCKS_REMAIN ? length : 0);
     if (said.number > SEATBOARD_BYTES_FOLLOW || said.place < 4 || said.place >= length)
@@ -218,7 +277,7 @@ void state_length(uint8_t *chunk, size_t length)
 static void promise_block(const struct board *board, Answer said, const uint8_t *chunk)
 {
     bool all = said.number == SEATBOARD_OK || said.number == SEATBOARD_BYTES_FOLLOW;
-    if (all || said.number < SEATBOARD_BLOCKS_REMAIN) {
+    if (all || said.number < SEATBOARD_BLOCKS_REMAIN || said.number == SEATBOARD_BAD_COUNT) {
         PROMISE(said.block == (all ? board->blocks : 0));
         return;
     }
@@ -232,18 +291,19 @@ static void promise_block(const struct board *board, Answer said, const uint8_t 
     }
     state_length(feed_made, at);
     copy_board(&twin, &start);
+    make_true(&twin);
     PROMISE(call_read(&twin, feed_made, at).number == 0);
 }
 
-/* The first bytes of a chunk, and a tail behind them, read over the board that the call was given. The buffers are the
- * twin's own: where they are touched is looked at elsewhere. */
+/* The first bytes of a chunk, and a tail behind them, read over the board that a call was given, with a true record. */
 static Answer read_with(const uint8_t *chunk, size_t end, const uint8_t *tail, size_t length)
 {
     memcpy(feed_made, chunk, end);
     memcpy(feed_made + end, tail, length);
     state_length(feed_made, end + length);
     copy_board(&twin, &start);
-    return seatboard_read_chunk(twin.size, feed_made, end + length, twin.picture, twin.pixels, twin.map, twin.blocks);
+    make_true(&twin);
+    return read_bare(&twin, feed_made, end + length);
 }
 
 /* Where the last block of a chunk that was accepted ends: a byte that is not zero tells, behind it. */
@@ -264,14 +324,37 @@ static void promise_padding(const uint8_t *chunk, size_t end)
         if (zeros == 0)
             copy_board(&bare, &twin);
         PROMISE(same_answer(said, zeros < 4 ? answered(0, end + zeros, start.blocks) : refused));
-        PROMISE(same_board(&twin, zeros < 4 ? &bare : &start));
+        PROMISE(same_buffers(&twin, zeros < 4 ? &bare : &start) && twin.unsettled == unsettled_of(&twin));
     }
     for (size_t place = 0; place < 3; place++) {
         uint8_t tail[3] = {0};
         tail[place] = (uint8_t)(1 << (end + place) % 8);
         Answer said = read_with(chunk, end, tail, 3 - end % (3 - place)); /* behind that byte up to two zeros */
-        PROMISE(same_answer(said, refused) && same_board(&twin, &start));
+        PROMISE(same_answer(said, refused) && same_buffers(&twin, &start));
     }
+}
+
+/* What a chunk should answer and leave, by what it does with a true record: there is no 21 then, and the record stays
+ * true; any other count moves as far. From three times the blocks on all counts are alike. */
+static void promise_count(const struct board *board, Answer said, const uint8_t *chunk, size_t length)
+{
+    copy_board(&twin, &start);
+    make_true(&twin);
+    size_t before = twin.unsettled, blocks = start.blocks, lent = start.unsettled;
+    Answer by_true = read_bare(&twin, chunk, length);
+    PROMISE(by_true.number != SEATBOARD_BAD_COUNT && twin.unsettled == unsettled_of(&twin));
+    if (lent > 3 * blocks)
+        lent = 3 * blocks;
+    bool below = lent + twin.unsettled < before, above = lent + twin.unsettled > before + blocks;
+    if (by_true.number == 0 && (below || above)) {
+        PROMISE(same_answer(said, answered(SEATBOARD_BAD_COUNT, 0, 0)) && same_board(board, &start));
+        fallen_below += below;
+        risen_above += above;
+        return;
+    }
+    PROMISE(same_answer(said, by_true) && same_buffers(board, &twin));
+    if (said.number == 0)
+        PROMISE(board->unsettled == lent + twin.unsettled - before);
 }
 
 static Answer call_walk(struct board *board, const uint8_t *feed, size_t length);
@@ -318,6 +401,7 @@ static void promise_origins(const struct board *board, const uint8_t *chunk, siz
         twin.picture[k] = (uint8_t)~start.picture[k];
     for (size_t k = 0; k < twin.blocks; k++)
         twin.map[k] = (uint16_t)k;
+    twin.unsettled = twin.blocks;
     PROMISE(same_answer(call_read(&twin, chunk, length), answered(0, length, board->blocks)));
     for (size_t k = 0; k < twin.blocks; k++) {
         uint16_t from = twin.map[k];
@@ -343,6 +427,7 @@ void try_read(struct board *board, const uint8_t *chunk, size_t length)
     PROMISE(same_answer(call_read(&twin, chunk, length), said) && same_board(&twin, board));
     if (board_refusal(board))
         return;
+    promise_count(board, said, chunk, length);
     promise_alone(board, said, chunk, length);
     if (said.number == SEATBOARD_BYTES_FOLLOW)
         promise_padding(chunk, said.place);
@@ -350,7 +435,7 @@ void try_read(struct board *board, const uint8_t *chunk, size_t length)
         return;
     promise_origins(board, chunk, length);
     promise_padding(chunk, end_of(chunk, length));
-    PROMISE(same_board(&bare, board));
+    PROMISE(same_buffers(&bare, board));
 }
 
 /* ---- walking ---- */
@@ -358,10 +443,11 @@ void try_read(struct board *board, const uint8_t *chunk, size_t length)
 static Answer call_walk(struct board *board, const uint8_t *feed, size_t length)
 {
     struct loans l = lend_all(board, feed, length);
-    Answer said =
-        seatboard_walk_feed(l.bytes.lent, length, l.picture.lent, board->pixels, entries(&l.map), board->blocks);
-    take_back(&l, board, said.number != SEATBOARD_BAD_SIZE && said.number != SEATBOARD_BAD_LENGTH);
-    return said;
+    Recorded said = seatboard_walk_feed(record_of(board), l.bytes.lent, length, l.picture.lent, board->pixels,
+                                        entries(&l.map), board->blocks);
+    unsigned number = said.answer.number;
+    take_back(&l, board, number != SEATBOARD_BAD_SIZE && number != SEATBOARD_BAD_LENGTH, said.record);
+    return said.answer;
 }
 
 unsigned number_at(const uint8_t *bytes, size_t length, size_t *at, size_t *value)
@@ -380,28 +466,27 @@ unsigned number_at(const uint8_t *bytes, size_t length, size_t *at, size_t *valu
     return SEATBOARD_BAD_VARINT;
 }
 
-/* Lengths and chunks from a place on, in the header's words, each chunk by seatboard_read_chunk. The buffers are the
- * board's own: where they are touched is looked at elsewhere, and there may be many chunks. */
-static Tally chunks_by_hand(struct board *board, const uint8_t *bytes, size_t length, size_t at)
+/* Lengths and chunks from a place on, in the header's words, each chunk by seatboard_read_chunk with the record that
+ * the one before it left; and how many of them are accepted. */
+static Answer chunks_by_hand(struct board *board, const uint8_t *bytes, size_t length, size_t at, size_t *accepted)
 {
-    size_t accepted = 0, chunk = 0;
+    size_t chunk = 0;
+    *accepted = 0;
     if (board_refusal(board))
-        return (Tally){answered(board_refusal(board), 0, 0), 0};
+        return answered(board_refusal(board), 0, 0);
     for (; at < length; at += chunk) {
         size_t number_from = at;
         unsigned fault = number_at(bytes, length, &at, &chunk);
         if (fault)
-            return (Tally){answered(fault, number_from, 0), accepted};
+            return answered(fault, number_from, 0);
         if (chunk > length - at)
-            return (Tally){answered(SEATBOARD_FEED_CUT, at, 0), accepted};
-        Answer said = seatboard_read_chunk(board->size, bytes + at, chunk, board->picture, board->pixels, board->map,
-                                           board->blocks);
-        accepted += said.number == 0;
+            return answered(SEATBOARD_FEED_CUT, at, 0);
+        *accepted += read_bare(board, bytes + at, chunk).number == 0;
     }
-    return (Tally){answered(0, length, board->blocks), accepted};
+    return answered(0, length, board->blocks);
 }
 
-/* A feed: its size, and the rest. */
+/* A feed: its size, which must be the record's, and the rest. */
 static Answer walk_by_hand(struct board *board, const uint8_t *feed, size_t length)
 {
     size_t at = 0, number_from = 0, sides[2] = {0, 0};
@@ -410,8 +495,13 @@ static Answer walk_by_hand(struct board *board, const uint8_t *feed, size_t leng
         if (fault)
             return answered(fault, number_from, 0);
     }
-    board->size = (struct seatboard_size){4 * sides[0], 4 * sides[1]};
-    return chunks_by_hand(board, feed, length, at).answer;
+    const struct seatboard_size size = {4 * sides[0], 4 * sides[1]};
+    if (!allowed(size))
+        return answered(SEATBOARD_BAD_SIZE, 0, 0);
+    if (!same_size(size, board->size))
+        return answered(SEATBOARD_BAD_LENGTH, 0, 0);
+    size_t accepted;
+    return chunks_by_hand(board, feed, length, at, &accepted);
 }
 
 void try_walk(struct board *board, const uint8_t *feed, size_t length)
@@ -424,15 +514,15 @@ void try_walk(struct board *board, const uint8_t *feed, size_t length)
 static Tally call_run(struct board *board, const uint8_t *run, size_t length)
 {
     struct loans l = lend_all(board, run, length);
-    Tally said = seatboard_walk_run(board->size, l.bytes.lent, length, l.picture.lent, board->pixels, entries(&l.map),
-                                    board->blocks);
-    take_back(&l, board, said.accepted > 0);
+    Tally said = seatboard_walk_run(record_of(board), l.bytes.lent, length, l.picture.lent, board->pixels,
+                                    entries(&l.map), board->blocks);
+    take_back(&l, board, said.accepted > 0, said.record);
     return said;
 }
 
 static bool same_tally(Tally a, Tally b)
 {
-    return same_answer(a.answer, b.answer) && a.accepted == b.accepted;
+    return same_answer(a.answer, b.answer) && a.accepted == b.accepted && same_record(a.record, b.record);
 }
 
 /* A run for an allowed size is what stands in a feed behind the size numbers. */
@@ -451,8 +541,10 @@ void try_run(struct board *board, const uint8_t *run, size_t length)
 {
     copy_board(&start, board);
     copy_board(&twin, board);
-    Tally by_hand = chunks_by_hand(&twin, run, length, 0), said = call_run(board, run, length);
-    PROMISE(same_tally(said, by_hand) && same_board(board, &twin));
+    size_t accepted;
+    Answer by_hand = chunks_by_hand(&twin, run, length, 0, &accepted);
+    Tally said = call_run(board, run, length);
+    PROMISE(same_tally(said, (Tally){by_hand, accepted, record_of(&twin)}) && same_board(board, &twin));
 
     lend_early = !lend_early; /* the same bytes at other addresses */
     copy_board(&twin, &start);
@@ -513,6 +605,7 @@ static size_t room_of(unsigned kind, size_t chunk, size_t longest)
  * no padding. */
 static void read_back(struct board *board, const struct wish *wish, const uint8_t *chunk, size_t length)
 {
+    make_true(board);
     copy_board(&start, board);
     memcpy(wanted, wish->picture, wish->pixels); /* an overlapping one changes with the board */
     PROMISE(chunk[0] == 0xE1 && end_of(chunk, length) == length);
@@ -674,7 +767,7 @@ void try_longest_chunks(void)
     const size_t bound = (size_t)1 << 24, room = bound + 4096;
     uint8_t *pages = mmap(NULL, room, PROT_READ | PROT_WRITE, MAP_PRIVATE | MAP_ANONYMOUS, -1, 0), pixels[16] = {0};
     uint16_t map[1] = {0};
-    const struct seatboard_size size = {4, 4};
+    const Record record = {{4, 4}, 1};
     PROMISE(pages != MAP_FAILED);
     for (size_t length = bound - 1; length < bound + 8; length++) {
         uint8_t *chunk = pages + room - length, *feed = chunk - 6;
@@ -683,13 +776,14 @@ void try_longest_chunks(void)
         const uint8_t head[] = {0xE1, (uint8_t)(length >> 16), (uint8_t)(length >> 8), (uint8_t)length, 0};
         memcpy(feed, number, sizeof number);
         memcpy(chunk, head, sizeof head);
-        Answer said = seatboard_read_chunk(size, chunk, length, pixels, 16, map, 1);
-        PROMISE(same_answer(said, length < bound ? answered(SEATBOARD_BYTES_FOLLOW, 5, 1)
-                                                 : answered(SEATBOARD_LENGTH_DIFFERS, 0, 0)));
-        said = seatboard_walk_feed(feed, bound + 5, pixels, 16, map, 1);
-        PROMISE(same_answer(said, answered(0, bound + 5, 1)));
-        Tally ran = seatboard_walk_run(size, feed + 2, bound + 3, pixels, 16, map, 1);
-        PROMISE(same_tally(ran, (Tally){answered(0, bound + 3, 1), 0}));
+        Recorded said = seatboard_read_chunk(record, chunk, length, pixels, 16, map, 1);
+        PROMISE(same_answer(said.answer, length < bound ? answered(SEATBOARD_BYTES_FOLLOW, 5, 1)
+                                                        : answered(SEATBOARD_LENGTH_DIFFERS, 0, 0)));
+        PROMISE(same_record(said.record, record));
+        said = seatboard_walk_feed(record, feed, bound + 5, pixels, 16, map, 1);
+        PROMISE(same_answer(said.answer, answered(0, bound + 5, 1)) && same_record(said.record, record));
+        Tally ran = seatboard_walk_run(record, feed + 2, bound + 3, pixels, 16, map, 1);
+        PROMISE(same_tally(ran, (Tally){answered(0, bound + 3, 1), 0, record}));
     }
     munmap(pages, room);
 }
@@ -702,11 +796,11 @@ void try_longest_run(void)
     const size_t chunks = ((size_t)1 << 16) + 3, length = chunks * sizeof kept;
     uint8_t *run = mmap(NULL, length, PROT_READ | PROT_WRITE, MAP_PRIVATE | MAP_ANONYMOUS, -1, 0), pixels[16] = {0};
     uint16_t map[1] = {0};
-    const struct seatboard_size size = {4, 4};
+    const Record record = {{4, 4}, 1};
     PROMISE(run != MAP_FAILED);
     for (size_t k = 0; k < chunks; k++)
         memcpy(run + k * sizeof kept, kept, sizeof kept);
-    Tally said = seatboard_walk_run(size, run, length, pixels, 16, map, 1);
-    PROMISE(same_tally(said, (Tally){answered(0, length, 1), chunks}));
+    Tally said = seatboard_walk_run(record, run, length, pixels, 16, map, 1);
+    PROMISE(same_tally(said, (Tally){answered(0, length, 1), chunks, record}));
     munmap(run, length);
 }

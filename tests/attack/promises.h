@@ -16,15 +16,24 @@
 #define MAX_PIXELS SEATBOARD_PIXELS(SEATBOARD_MAX_WIDTH, SEATBOARD_MAX_HEIGHT)
 #define MAX_BLOCKS SEATBOARD_BLOCKS(SEATBOARD_MAX_WIDTH, SEATBOARD_MAX_HEIGHT)
 
-/* What a call is given. Size and lengths need not be allowed, nor fit each other. */
+/* What a call is given. Size and lengths need not be allowed, nor fit each other, and the record's count need not be that
+ * of the map. */
 struct board {
     struct seatboard_size size;
+    size_t unsettled;      /* with the size, the record that is lent */
     size_t pixels, blocks; /* the lengths that are lent */
     uint8_t picture[MOST];
     uint16_t map[MOST];
 };
 
 void copy_board(struct board *to, const struct board *from);
+
+/* Makes the board's record a true one. */
+void make_true(struct board *board);
+
+/* Reads a chunk over the board, and keeps the record that is handed back. The buffers are the board's own: where they are
+ * touched is not looked at. */
+struct seatboard_answer read_bare(struct board *board, const uint8_t *chunk, size_t length);
 
 bool allowed(struct seatboard_size size);
 
@@ -71,6 +80,9 @@ struct symbol {
 
 /* Paints on copies of the board's picture, and leaves the board as it is. */
 void try_paint(const struct board *board, const struct symbol *symbol);
+
+/* How often 21 was given where the count would have fallen below 0, and where above the number of blocks. */
+extern size_t fallen_below, risen_above;
 
 /* Chunks of 2^24 - 1 bytes and of a few more, read and walked, in a feed and in a run. */
 void try_longest_chunks(void);

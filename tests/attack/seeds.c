@@ -2,7 +2,8 @@
  * The seeds, written as attack.c reads them: width, height, picture, then calls. The calls, in hex: 00 fresh map, 01
  * count, 02 numbers, 03 walk (23 repaired), 04 write (24 overlapping), 05 read (25 repaired, 65 closed too), 06 paint
  * (26 with a head put in front, 66 with its highest bytes first), 07 run (27 repaired); 08 more where buffers begin at
- * a page's start, 10 more where size and lengths are odd. A chunk, feed, run or symbol stands behind its length.
+ * a page's start, 10 more where size and lengths are odd, 80 more where the record is untrue, by a byte that follows. A
+ * chunk, feed, run or symbol stands behind its length.
  */
 #include <string.h>
 
@@ -27,6 +28,13 @@
 #define FIVE "06E10000066005"
 #define KEPT64 EIGHT(EIGHT("05E100000500"))
 #define KEPT264 KEPT64 KEPT64 KEPT64 KEPT64 EIGHT("05E100000500")
+
+/* behind their lengths, for two blocks: both of colour 5, one of colour 9 and the other kept, the first copied to the
+ * second, both kept */
+#define FIVES "06E10000066105"
+#define NINE "07E1000007600900"
+#define COPIED "06E10000060020"
+#define KEPT "05E100000501"
 
 /* behind their lengths, chunks for two blocks with zeros after the last one, and one with another byte: accepted are all
  * but the third and the last */
@@ -104,6 +112,26 @@ static const char *const seeds[] = {
     /* by sides and lengths that are odd */
     "00 00 00  17 13 13 3F 0700" FIVE "  1F 14 1B 00 0000  17 1B 1B 01 0700" FIVE "  1F 1B 1B 02 0000"
     "  17 1B 1B 18 0200 8000  1F 1B 1B 09 0000  37 10 1B 00 0700" FIVE "  17 1B 1B 03 0700" FIVE,
+    /* records untrue to a fresh map: 0, one less, one more, one above the blocks, 2^64 - 1; twice the blocks, brought down;
+     * then all is settled: one less is 2^64 - 1 */
+    "01 00 07  85 00 0600 E10000066105  8D 01 0600 E10000066105  85 02 0500 E100000501  8D 04 0600 E10000060020"
+    "  85 05 0500 E100000501  8D 08 0600 E10000066105  85 01 0500 E100000501  8D 03 0600 E10000060020",
+    /* to a map that is settled here and there: blocks unsettled, settled, and both, at either bound */
+    "03 00 05  02 0400 FFFF0000  85 03 0700 E1000007 012000  8D 05 0700 E1000007 012000  85 00 0800 E1000008 01206005"
+    "  8D 00 0600 E1000006 6305  85 0F 0700 E1000007 012000  8D 02 0500 E1000005 03  85 01 0600 E1000006 6305",
+    "07 07 03  02 0600 FFFF0000FEFF  C5 00 0900 E1000009 10056005  CD 04 0700 E1000007 003F00  E5 0A 0600 E1000000 0123"
+    "  CD 0B 0600 E1000000 0123  E5 0E 0600 E1000000 6105  CD 01 0A00 E1000000 7F3F05  E5 09 0500 E1000000 01",
+    /* other refusals go first */
+    "03 01 05  85 05 0500 E1000005 02  8D 05 0600 E1000006 0261  85 05 0600 E1000006 05F1  8D 05 0600 E1000006 0041"
+    "  85 05 0700 E1000007 610907  8D 05 0700 E1000007 039100  85 05 0700 E1000007 0600AA  8D 05 0300 E10000",
+    /* 21 at first, in the middle and last in runs and feeds, 12 and 13 behind it */
+    "01 00 07  87 01 1500" FIVES NINE KEPT "  8F 00 1500" KEPT FIVES NINE "  00  87 04 1C00" KEPT NINE COPIED FIVES
+    "  00  8F 01 1100" FIVES NINE "8000  00  87 08 1000" NINE FIVES "05",
+    "01 00 07  83 01 1700 0201" FIVES NINE KEPT "  00  8B 04 1E00 0201" KEPT NINE COPIED FIVES "  00  83 01 1300 0201"
+    FIVES NINE "8000  00  8B 05 1000 0201" FIVES FIVES,
+    /* feeds whose size is not the record's: of the same lengths or not, a record's that is not allowed, a feed's */
+    "01 00 07  03 0900 0102" FIVES "  0B 0900 0202" FIVES "  13 05 1B 00 0900 0201" FIVES "  1B 1B 10 00 0900 0201" FIVES
+    "  13 15 1B 00 0900 0201" FIVES "  1B 0C 1B 00 0900 5101" FIVES "  83 05 0900 0001" FIVES "  93 05 1B 00 05 0200 8000",
     /* any numbers in the map, moved and counted */
     "03 02 01  02 0600 FFFF0000FEFF  01  65 0800 E100000000214041  09  02 0100 FF  01",
     /* by each call: sides whose product overflows, with lengths of that product; too long and too short by one; empty;

@@ -15,6 +15,8 @@
 #define PAINT 0xB7
 
 typedef struct seatboard_answer Answer;
+typedef struct seatboard_record Record;
+typedef struct seatboard_recorded Recorded;
 typedef struct seatboard_tally Tally;
 typedef struct seatboard_size Size;
 
@@ -32,6 +34,7 @@ static struct taken {
 /* What the call under way was lent, and what came back. */
 static struct lent {
     Size size;
+    Record record;
     const uint8_t *in, *more;
     size_t in_length, more_length;
     uint8_t *out;
@@ -42,6 +45,7 @@ static struct lent {
     size_t frame;
     int16_t left, top;
     Answer answer;
+    Recorded recorded;
     struct seatboard_count count;
     Tally tally;
 } lent;
@@ -87,82 +91,91 @@ __attribute__((constructor)) static void begin(void)
 
 /* ---- the seven functions: the real one, its call, and what stands in for it ---- */
 
-Answer __real_seatboard_fresh_map(Size, uint16_t *, size_t);
-struct seatboard_count __real_seatboard_count(Size, const uint16_t *, size_t);
-Answer __real_seatboard_read_chunk(Size, const uint8_t *, size_t, uint8_t *, size_t, uint16_t *, size_t);
-Answer __real_seatboard_write_chunk(Size, const uint8_t *, size_t, const uint8_t *, size_t, uint8_t *, size_t);
-Answer __real_seatboard_walk_feed(const uint8_t *, size_t, uint8_t *, size_t, uint16_t *, size_t);
-Tally __real_seatboard_walk_run(Size, const uint8_t *, size_t, uint8_t *, size_t, uint16_t *, size_t);
-Answer __real_seatboard_paint_symbol(Size, uint8_t *, size_t, const uint8_t *, size_t, size_t, int16_t, int16_t);
+Recorded __real_seatboard_v2_fresh_map(Size, uint16_t *, size_t);
+struct seatboard_count __real_seatboard_v2_count(Size, const uint16_t *, size_t);
+Recorded __real_seatboard_v2_read_chunk(Record, const uint8_t *, size_t, uint8_t *, size_t, uint16_t *, size_t);
+Answer __real_seatboard_v2_write_chunk(Size, const uint8_t *, size_t, const uint8_t *, size_t, uint8_t *, size_t);
+Recorded __real_seatboard_v2_walk_feed(Record, const uint8_t *, size_t, uint8_t *, size_t, uint16_t *, size_t);
+Tally __real_seatboard_v2_walk_run(Record, const uint8_t *, size_t, uint8_t *, size_t, uint16_t *, size_t);
+Answer __real_seatboard_v2_paint_symbol(Size, uint8_t *, size_t, const uint8_t *, size_t, size_t, int16_t, int16_t);
 
 static void call_fresh_map(void)
 {
-    lent.answer = __real_seatboard_fresh_map(lent.size, lent.map, lent.map_length);
+    lent.recorded = __real_seatboard_v2_fresh_map(lent.size, lent.map, lent.map_length);
 }
 
 static void call_count(void)
 {
-    lent.count = __real_seatboard_count(lent.size, lent.counted, lent.map_length);
+    lent.count = __real_seatboard_v2_count(lent.size, lent.counted, lent.map_length);
 }
 
 static void call_read_chunk(void)
 {
     const struct lent *l = &lent;
-    lent.answer =
-        __real_seatboard_read_chunk(l->size, l->in, l->in_length, l->out, l->out_length, l->map, l->map_length);
+    lent.recorded =
+        __real_seatboard_v2_read_chunk(l->record, l->in, l->in_length, l->out, l->out_length, l->map, l->map_length);
 }
 
 static void call_write_chunk(void)
 {
     const struct lent *l = &lent;
-    lent.answer =
-        __real_seatboard_write_chunk(l->size, l->in, l->in_length, l->more, l->more_length, l->out, l->out_length);
+    lent.answer = __real_seatboard_v2_write_chunk(l->size, l->in, l->in_length, l->more, l->more_length, l->out,
+                                                  l->out_length);
 }
 
 static void call_walk_feed(void)
 {
     const struct lent *l = &lent;
-    lent.answer = __real_seatboard_walk_feed(l->in, l->in_length, l->out, l->out_length, l->map, l->map_length);
+    lent.recorded =
+        __real_seatboard_v2_walk_feed(l->record, l->in, l->in_length, l->out, l->out_length, l->map, l->map_length);
 }
 
 static void call_walk_run(void)
 {
     const struct lent *l = &lent;
-    lent.tally = __real_seatboard_walk_run(l->size, l->in, l->in_length, l->out, l->out_length, l->map, l->map_length);
+    lent.tally =
+        __real_seatboard_v2_walk_run(l->record, l->in, l->in_length, l->out, l->out_length, l->map, l->map_length);
 }
 
 static void call_paint_symbol(void)
 {
     const struct lent *l = &lent;
-    lent.answer = __real_seatboard_paint_symbol(l->size, l->out, l->out_length, l->in, l->in_length, l->frame, l->left,
-                                                l->top);
+    lent.answer = __real_seatboard_v2_paint_symbol(l->size, l->out, l->out_length, l->in, l->in_length, l->frame,
+                                                   l->left, l->top);
 }
 
-Answer __wrap_seatboard_fresh_map(Size size, uint16_t *map, size_t map_length)
+/* What reads chunks is lent: a chunk, feed or run, and a picture and its map with their record. */
+static struct lent with_board(Record record, const uint8_t *in, size_t length, uint8_t *picture, size_t pixels,
+                              uint16_t *map, size_t blocks)
+{
+    return (struct lent){.record = record, .in = in, .in_length = length, .out = picture, .out_length = pixels,
+                         .map = map, .map_length = blocks};
+}
+
+Recorded __wrap_seatboard_v2_fresh_map(Size size, uint16_t *map, size_t map_length)
 {
     lent = (struct lent){.size = size, .map = map, .map_length = map_length};
     on_paint(&fresh_map, call_fresh_map);
-    return lent.answer;
+    return lent.recorded;
 }
 
-struct seatboard_count __wrap_seatboard_count(Size size, const uint16_t *map, size_t map_length)
+struct seatboard_count __wrap_seatboard_v2_count(Size size, const uint16_t *map, size_t map_length)
 {
     lent = (struct lent){.size = size, .counted = map, .map_length = map_length};
     on_paint(&count, call_count);
     return lent.count;
 }
 
-Answer __wrap_seatboard_read_chunk(Size size, const uint8_t *chunk, size_t length, uint8_t *picture, size_t pixels,
-                                   uint16_t *map, size_t blocks)
+Recorded __wrap_seatboard_v2_read_chunk(Record record, const uint8_t *chunk, size_t length, uint8_t *picture,
+                                        size_t pixels, uint16_t *map, size_t blocks)
 {
-    lent = (struct lent){.size = size, .in = chunk, .in_length = length, .out = picture, .out_length = pixels,
-                         .map = map, .map_length = blocks};
+    lent = with_board(record, chunk, length, picture, pixels, map, blocks);
     on_paint(&read_chunk, call_read_chunk);
-    return lent.answer;
+    return lent.recorded;
 }
 
-Answer __wrap_seatboard_write_chunk(Size size, const uint8_t *old, size_t old_length, const uint8_t *new,
-                                    size_t new_length, uint8_t *output, size_t room)
+Answer __wrap_seatboard_v2_write_chunk(Size size, const uint8_t *old, size_t old_length, const uint8_t *new,
+                                       size_t new_length, uint8_t *output, size_t room)
 {
     lent = (struct lent){.size = size, .in = old, .in_length = old_length, .more = new, .more_length = new_length,
                          .out = output, .out_length = room};
@@ -170,26 +183,24 @@ Answer __wrap_seatboard_write_chunk(Size size, const uint8_t *old, size_t old_le
     return lent.answer;
 }
 
-Answer __wrap_seatboard_walk_feed(const uint8_t *feed, size_t length, uint8_t *picture, size_t pixels, uint16_t *map,
-                                  size_t blocks)
+Recorded __wrap_seatboard_v2_walk_feed(Record record, const uint8_t *feed, size_t length, uint8_t *picture,
+                                       size_t pixels, uint16_t *map, size_t blocks)
 {
-    lent = (struct lent){.in = feed, .in_length = length, .out = picture, .out_length = pixels,
-                         .map = map, .map_length = blocks};
+    lent = with_board(record, feed, length, picture, pixels, map, blocks);
     on_paint(&walk_feed, call_walk_feed);
-    return lent.answer;
+    return lent.recorded;
 }
 
-Tally __wrap_seatboard_walk_run(Size size, const uint8_t *run, size_t length, uint8_t *picture, size_t pixels,
-                                uint16_t *map, size_t blocks)
+Tally __wrap_seatboard_v2_walk_run(Record record, const uint8_t *run, size_t length, uint8_t *picture, size_t pixels,
+                                   uint16_t *map, size_t blocks)
 {
-    lent = (struct lent){.size = size, .in = run, .in_length = length, .out = picture, .out_length = pixels,
-                         .map = map, .map_length = blocks};
+    lent = with_board(record, run, length, picture, pixels, map, blocks);
     on_paint(&walk_run, call_walk_run);
     return lent.tally;
 }
 
-Answer __wrap_seatboard_paint_symbol(Size size, uint8_t *picture, size_t pixels, const uint8_t *file, size_t length,
-                                     size_t frame, int16_t left, int16_t top)
+Answer __wrap_seatboard_v2_paint_symbol(Size size, uint8_t *picture, size_t pixels, const uint8_t *file, size_t length,
+                                        size_t frame, int16_t left, int16_t top)
 {
     lent = (struct lent){.size = size, .in = file, .in_length = length, .out = picture, .out_length = pixels,
                          .frame = frame, .left = left, .top = top};

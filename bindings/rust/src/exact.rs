@@ -1,7 +1,8 @@
 //! The library's functions with their answers as C has them: a number, a place and a block, whatever
-//! the number. For programs that show or compare answers. The only file with `unsafe`.
+//! the number, and the record by value. For programs that show or compare answers. The only file with
+//! `unsafe`.
 
-use crate::Size;
+use crate::{Record, Size};
 
 #[repr(C)]
 #[derive(Clone, Copy, Debug, PartialEq, Eq)]
@@ -11,6 +12,15 @@ pub struct Answer {
     pub place: usize,
     /// That of [`crate::Accepted`] or [`crate::Refused`]; 0 where no chunk is read or written.
     pub block: usize,
+}
+
+/// What a fresh start, a chunk and a feed answer.
+#[repr(C)]
+#[derive(Clone, Copy, Debug, PartialEq, Eq)]
+pub struct Recorded {
+    pub answer: Answer,
+    /// As it is after the call; of a refused fresh start the lent size and count 0.
+    pub record: Record,
 }
 
 #[repr(C)]
@@ -27,20 +37,28 @@ pub struct Tally {
     pub answer: Answer,
     /// How many chunks were accepted; 0 where the answer is 1 or 2.
     pub accepted: usize,
+    /// As it is after the call.
+    pub record: Record,
 }
 
+// The symbols have the number of the interface in their names: with the library of another one this
+// file does not link.
 extern "C" {
-    fn seatboard_fresh_map(size: Size, map: *mut u16, map_length: usize) -> Answer;
+    #[link_name = "seatboard_v2_fresh_map"]
+    fn seatboard_fresh_map(size: Size, map: *mut u16, map_length: usize) -> Recorded;
+    #[link_name = "seatboard_v2_count"]
     fn seatboard_count(size: Size, map: *const u16, map_length: usize) -> Count;
+    #[link_name = "seatboard_v2_read_chunk"]
     fn seatboard_read_chunk(
-        size: Size,
+        record: Record,
         chunk: *const u8,
         chunk_length: usize,
         picture: *mut u8,
         picture_length: usize,
         map: *mut u16,
         map_length: usize,
-    ) -> Answer;
+    ) -> Recorded;
+    #[link_name = "seatboard_v2_write_chunk"]
     fn seatboard_write_chunk(
         size: Size,
         old_picture: *const u8,
@@ -50,16 +68,19 @@ extern "C" {
         output: *mut u8,
         output_length: usize,
     ) -> Answer;
+    #[link_name = "seatboard_v2_walk_feed"]
     fn seatboard_walk_feed(
+        record: Record,
         feed: *const u8,
         feed_length: usize,
         picture: *mut u8,
         picture_length: usize,
         map: *mut u16,
         map_length: usize,
-    ) -> Answer;
+    ) -> Recorded;
+    #[link_name = "seatboard_v2_walk_run"]
     fn seatboard_walk_run(
-        size: Size,
+        record: Record,
         run: *const u8,
         run_length: usize,
         picture: *mut u8,
@@ -67,6 +88,7 @@ extern "C" {
         map: *mut u16,
         map_length: usize,
     ) -> Tally;
+    #[link_name = "seatboard_v2_paint_symbol"]
     fn seatboard_paint_symbol(
         size: Size,
         picture: *mut u8,
@@ -83,7 +105,7 @@ extern "C" {
 // lent for the call, so it is aligned and that long; slices lent for writing overlap no other; and
 // the library, for all inputs, touches nothing outside what it is lent and keeps no pointer.
 
-pub fn fresh_map(size: Size, map: &mut [u16]) -> Answer {
+pub fn fresh_map(size: Size, map: &mut [u16]) -> Recorded {
     // SAFETY: as above.
     unsafe { seatboard_fresh_map(size, map.as_mut_ptr(), map.len()) }
 }
@@ -93,11 +115,11 @@ pub fn count(size: Size, map: &[u16]) -> Count {
     unsafe { seatboard_count(size, map.as_ptr(), map.len()) }
 }
 
-pub fn read_chunk(size: Size, chunk: &[u8], picture: &mut [u8], map: &mut [u16]) -> Answer {
+pub fn read_chunk(record: Record, chunk: &[u8], picture: &mut [u8], map: &mut [u16]) -> Recorded {
     // SAFETY: as above.
     unsafe {
         seatboard_read_chunk(
-            size,
+            record,
             chunk.as_ptr(),
             chunk.len(),
             picture.as_mut_ptr(),
@@ -123,10 +145,11 @@ pub fn write_chunk(size: Size, old: &[u8], new: &[u8], output: &mut [u8]) -> Ans
     }
 }
 
-pub fn walk_feed(feed: &[u8], picture: &mut [u8], map: &mut [u16]) -> Answer {
+pub fn walk_feed(record: Record, feed: &[u8], picture: &mut [u8], map: &mut [u16]) -> Recorded {
     // SAFETY: as above.
     unsafe {
         seatboard_walk_feed(
+            record,
             feed.as_ptr(),
             feed.len(),
             picture.as_mut_ptr(),
@@ -137,11 +160,11 @@ pub fn walk_feed(feed: &[u8], picture: &mut [u8], map: &mut [u16]) -> Answer {
     }
 }
 
-pub fn walk_run(size: Size, run: &[u8], picture: &mut [u8], map: &mut [u16]) -> Tally {
+pub fn walk_run(record: Record, run: &[u8], picture: &mut [u8], map: &mut [u16]) -> Tally {
     // SAFETY: as above.
     unsafe {
         seatboard_walk_run(
-            size,
+            record,
             run.as_ptr(),
             run.len(),
             picture.as_mut_ptr(),

@@ -1,11 +1,27 @@
 //! The proved picture codec of the seat boards, for Rust programs: SMC chunks read and written, the
-//! map that says which blocks of a picture can be trusted, the walk of the house feed and of a run
-//! of chunks, and seat symbols painted on a shown picture.
+//! map that says which blocks of a picture can be trusted and the record that keeps how many cannot,
+//! the walk of the house feed and of a run of chunks, and seat symbols painted on a shown picture.
 //!
 //! Slices in, a [`Result`] out (of a run a [`Tally`] with one), nothing `unsafe` for the caller, no
-//! allocation, no panic. Any bytes and any lengths may be lent. A refused call leaves all that it
-//! was lent as it was, but for a walk, of a feed or of a run, that ends in [`Reason::BadVarint`] or
-//! [`Reason::FeedCut`]: it leaves what the chunks accepted before that made.
+//! panic, and no allocation but for a [`Board`]. Any bytes, lengths and records may be lent. A refused
+//! call leaves all that it was lent as it was, but for a walk, of a feed or of a run, that ends in
+//! [`Reason::BadVarint`] or [`Reason::FeedCut`]: it leaves what the chunks accepted before that made.
+//!
+//! A [`Board`] keeps picture, map and record together:
+//!
+//! ```
+//! # fn main() -> Result<(), seatboard::Refused> {
+//! use seatboard::{Board, Size};
+//!
+//! let mut board = Board::new(Size { width: 8, height: 4 })?;
+//! board.read_chunk(&[0xE1, 0, 0, 6, 0x61, 5])?; // two blocks of colour 5
+//! assert_eq!(board.picture(), [5; 32]);
+//! assert_eq!(board.unsettled(), 0);
+//! # Ok(())
+//! # }
+//! ```
+//!
+//! Over buffers of one's own the same is:
 //!
 //! ```
 //! # fn main() -> Result<(), seatboard::Refused> {
@@ -14,12 +30,12 @@
 //! let size = Size { width: 8, height: 4 };
 //! let mut picture = vec![0; size.pixels()];
 //! let mut map = vec![0; size.blocks()];
-//! seatboard::fresh_map(size, &mut map)?;
+//! let mut record = seatboard::fresh_map(size, &mut map)?;
 //!
-//! let chunk = [0xE1, 0, 0, 6, 0x61, 5]; // two blocks of colour 5
-//! seatboard::read_chunk(size, &chunk, &mut picture, &mut map)?;
+//! let chunk = [0xE1, 0, 0, 6, 0x61, 5];
+//! seatboard::read_chunk(&mut record, &chunk, &mut picture, &mut map)?;
 //! assert_eq!(picture, [5; 32]);
-//! assert_eq!(seatboard::count_unsettled(size, &map)?, 0);
+//! assert_eq!(record.unsettled, 0);
 //! # Ok(())
 //! # }
 //! ```
@@ -27,6 +43,9 @@
 use std::error::Error;
 use std::fmt::{self, Display, Formatter};
 
+pub use board::Board;
+
+mod board;
 pub mod exact;
 
 /// The README's lines, so that they are tested too.
@@ -62,6 +81,20 @@ impl Size {
     pub const fn longest_chunk(self) -> usize {
         self.blocks().saturating_mul(17).saturating_add(4)
     }
+}
+
+/// What is kept beside a picture and its map, and lent with them: the size, and how many entries of
+/// the map are unsettled. [`fresh_map`] gives it, and what reads chunks brings it up to date.
+///
+/// It stays true to its map where nothing else writes either. A record that is untrue to it may be
+/// lent: each accepted chunk adds the blocks that it unsettles and takes away those that it settles,
+/// and one after which the count would be below 0 or above the number of blocks is refused with
+/// [`Reason::BadCount`].
+#[repr(C)]
+#[derive(Clone, Copy, Debug, PartialEq, Eq)]
+pub struct Record {
+    pub size: Size,
+    pub unsettled: usize,
 }
 
 /// What an accepted chunk, feed, run or write tells.
@@ -107,7 +140,7 @@ pub struct Refused {
 pub enum Reason {
     /// Width or height is not allowed.
     BadSize = 1,
-    /// A lent picture or map is not of the exact length.
+    /// A lent picture or map is not of the exact length, or a feed's size is not the record's.
     BadLength = 2,
     /// The chunk has fewer than 4 bytes.
     ChunkShort = 3,
@@ -147,11 +180,13 @@ pub enum Reason {
     BadSegment = 19,
     /// The rows are done, and the next two bytes are not 05 00.
     NoEndMarker = 20,
+    /// The record's count would fall below 0 or above the number of blocks: it was untrue to the map.
+    BadCount = 21,
 }
 
 impl Reason {
     /// In the order of their numbers, from 1.
-    pub const ALL: [Reason; 20] = [
+    pub const ALL: [Reason; 21] = [
         Reason::BadSize,
         Reason::BadLength,
         Reason::ChunkShort,
@@ -172,6 +207,7 @@ impl Reason {
         Reason::BadRow,
         Reason::BadSegment,
         Reason::NoEndMarker,
+        Reason::BadCount,
     ];
 
     pub const fn number(self) -> u8 {
@@ -183,7 +219,9 @@ impl Display for Reason {
     fn fmt(&self, out: &mut Formatter) -> fmt::Result {
         out.write_str(match self {
             Reason::BadSize => "width or height not allowed",
-            Reason::BadLength => "a lent picture or map is not of the exact length",
+            Reason::BadLength => {
+                "a lent picture or map is not of the exact length, or a feed of another size"
+            }
             Reason::ChunkShort => "chunk under 4 bytes",
             Reason::LengthDiffers => "stated length differs from the bytes given",
             Reason::BlocksRemain => "bytes end before an opcode, blocks remain",
@@ -202,6 +240,7 @@ impl Display for Reason {
             Reason::BadRow => "bad row head, or a row past the height or past the bytes",
             Reason::BadSegment => "segment of another code, past its row or past the width",
             Reason::NoEndMarker => "rows done, and no end marker follows",
+            Reason::BadCount => "the record's count would leave 0 to the number of blocks",
         })
     }
 }
@@ -223,26 +262,29 @@ impl Display for Refused {
 
 impl Error for Refused {}
 
-/// Makes a fresh map: entry k is k.
-pub fn fresh_map(size: Size, map: &mut [u16]) -> Result<(), Refused> {
-    accepted(exact::fresh_map(size, map)).map(|_| ())
+/// Makes a fresh map: entry k is k; and gives its record: the size and the number of blocks.
+pub fn fresh_map(size: Size, map: &mut [u16]) -> Result<Record, Refused> {
+    let exact::Recorded { answer, record } = exact::fresh_map(size, map);
+    accepted(answer).map(|_| record)
 }
 
-/// How many entries of a map are not settled.
+/// How many entries of a map are not settled, counted one by one. The record of a map that was started
+/// fresh has that number already.
 pub fn count_unsettled(size: Size, map: &[u16]) -> Result<usize, Refused> {
     let count = exact::count(size, map);
     accepted(count.answer).map(|_| count.unsettled)
 }
 
-/// Reads a chunk over a picture and its map: checked whole before anything is painted. One to three
-/// bytes after its last block are padding, and accepted, if all are zero.
+/// Reads a chunk over a picture and its map, and brings their record up to date: checked whole before
+/// anything is painted. One to three bytes after its last block are padding, and accepted, if all are
+/// zero.
 pub fn read_chunk(
-    size: Size,
+    record: &mut Record,
     chunk: &[u8],
     picture: &mut [u8],
     map: &mut [u16],
 ) -> Result<Accepted, Refused> {
-    accepted(exact::read_chunk(size, chunk, picture, map))
+    keep(record, exact::read_chunk(*record, chunk, picture, map))
 }
 
 /// Writes the chunk that makes the new picture out of the old one to the start of the output. The
@@ -257,17 +299,24 @@ pub fn write_chunk(
     accepted(exact::write_chunk(size, old, new, output))
 }
 
-/// Walks a feed, which tells its own size, over a picture and its map. A refused chunk changes
-/// nothing and does not end the walk.
-pub fn walk_feed(feed: &[u8], picture: &mut [u8], map: &mut [u16]) -> Result<Accepted, Refused> {
-    accepted(exact::walk_feed(feed, picture, map))
+/// Walks a feed, whose size must be the record's, over a picture and its map, and brings their record
+/// up to date, where the end is refused too. A refused chunk changes nothing and does not end the
+/// walk.
+pub fn walk_feed(
+    record: &mut Record,
+    feed: &[u8],
+    picture: &mut [u8],
+    map: &mut [u16],
+) -> Result<Accepted, Refused> {
+    keep(record, exact::walk_feed(*record, feed, picture, map))
 }
 
-/// Walks a run over a picture and its map: what a feed has behind its size numbers, for each chunk
-/// its length and the chunk. The same as reading its chunks singly: a refused one changes nothing,
-/// is not counted, and does not end the walk.
-pub fn walk_run(size: Size, run: &[u8], picture: &mut [u8], map: &mut [u16]) -> Tally {
-    let tally = exact::walk_run(size, run, picture, map);
+/// Walks a run over a picture and its map, and brings their record up to date: what a feed has behind
+/// its size numbers, for each chunk its length and the chunk. The same as reading its chunks singly: a
+/// refused one changes nothing, is not counted, and does not end the walk.
+pub fn walk_run(record: &mut Record, run: &[u8], picture: &mut [u8], map: &mut [u16]) -> Tally {
+    let tally = exact::walk_run(*record, run, picture, map);
+    *record = tally.record;
     Tally {
         accepted: tally.accepted,
         end: accepted(tally.answer),
@@ -289,6 +338,12 @@ pub fn paint_symbol(
     top: i16,
 ) -> Result<(), Refused> {
     accepted(exact::paint_symbol(size, picture, file, frame, left, top)).map(|_| ())
+}
+
+/// The record as the call left it, whatever it answered.
+fn keep(record: &mut Record, said: exact::Recorded) -> Result<Accepted, Refused> {
+    *record = said.record;
+    accepted(said.answer)
 }
 
 fn accepted(answer: exact::Answer) -> Result<Accepted, Refused> {

@@ -1,7 +1,7 @@
-//! Every refusal through the wrapper: its reason, number, place and block, and the buffers as they
-//! were.
+//! Every refusal through the wrapper: its reason, number, place and block, and the buffers and the
+//! record as they were.
 
-use seatboard::{exact, Accepted, Reason, Refused, Size};
+use seatboard::{exact, Accepted, Board, Reason, Record, Refused, Size};
 
 const SIZE: Size = Size {
     width: 8,
@@ -26,6 +26,15 @@ const NOWHERE: exact::Answer = exact::Answer {
     block: 0,
 };
 
+const fn record(size: Size, unsettled: usize) -> Record {
+    Record { size, unsettled }
+}
+
+/// That of a fresh map.
+const fn fresh(size: Size) -> Record {
+    record(size, size.blocks())
+}
+
 /// Reason, place and block.
 fn refused<T>(answer: Result<T, Refused>) -> (Reason, usize, usize) {
     let refused = answer.err().expect("refused");
@@ -38,14 +47,20 @@ fn accepted(answer: Result<Accepted, Refused>) -> (usize, usize) {
     (accepted.length, accepted.block)
 }
 
-/// Reads over a picture of zeros and a fresh map, which must stay so.
+/// Reads over a picture of zeros and a fresh map, which must stay so, with its record, or with one that
+/// is untrue to it: 21 is looked for last.
 fn read_refused(size: Size, chunk: &[u8]) -> (Reason, usize, usize) {
-    let mut picture = vec![0; size.pixels()];
-    let mut map: Vec<u16> = (0..size.blocks() as u16).collect();
-    let before = (picture.clone(), map.clone());
-    let answer = refused(seatboard::read_chunk(size, chunk, &mut picture, &mut map));
-    assert_eq!((picture, map), before);
-    answer
+    let answers = [size.blocks(), usize::MAX].map(|unsettled| {
+        let mut picture = vec![0; size.pixels()];
+        let mut map: Vec<u16> = (0..size.blocks() as u16).collect();
+        let mut record = record(size, unsettled);
+        let before = (picture.clone(), map.clone(), record);
+        let read = seatboard::read_chunk(&mut record, chunk, &mut picture, &mut map);
+        assert_eq!((picture, map, record), before);
+        refused(read)
+    });
+    assert_eq!(answers[0], answers[1]);
+    answers[0]
 }
 
 #[test]
@@ -65,7 +80,7 @@ fn chunks_are_refused_by_their_numbers() {
         assert_eq!(read_refused(LONE, chunk), (reason, place, block));
     }
     assert_eq!(read_refused(WRONG, &[]), (Reason::BadSize, 0, 0));
-    let short = seatboard::read_chunk(SIZE, &[], &mut [0; 31], &mut [0; 2]);
+    let short = seatboard::read_chunk(&mut fresh(SIZE), &[], &mut [0; 31], &mut [0; 2]);
     assert_eq!(refused(short), (Reason::BadLength, 0, 0));
 }
 
@@ -88,15 +103,15 @@ fn a_refused_chunk_says_which_block() {
 
 #[test]
 fn what_is_accepted_says_how_many_blocks() {
-    let (mut picture, mut map) = ([0; 128], [0; 8]);
+    let (mut picture, mut map, mut record) = ([0; 128], [0; 8], fresh(EIGHT));
     let chunk = [0xE1, 0, 0, 5, 0x07];
-    let read = seatboard::read_chunk(EIGHT, &chunk, &mut picture, &mut map);
+    let read = seatboard::read_chunk(&mut record, &chunk, &mut picture, &mut map);
     assert_eq!(accepted(read), (5, 8));
     // the last chunk is refused at block 3; it does not show
     let feed = [4, 2, 5, 0xE1, 0, 0, 5, 0x07, 5, 0xE1, 0, 0, 5, 0x02];
-    let walked = seatboard::walk_feed(&feed, &mut picture, &mut map);
+    let walked = seatboard::walk_feed(&mut record, &feed, &mut picture, &mut map);
     assert_eq!(accepted(walked), (14, 8));
-    let ran = seatboard::walk_run(EIGHT, &feed[2..], &mut picture, &mut map);
+    let ran = seatboard::walk_run(&mut record, &feed[2..], &mut picture, &mut map);
     assert_eq!((accepted(ran.end), ran.accepted), ((12, 8), 1));
     let written = seatboard::write_chunk(EIGHT, &picture, &[9; 128], &mut [0; 6]);
     assert_eq!(accepted(written), (6, 8));
@@ -112,16 +127,17 @@ fn fives_then(more: &[u8]) -> Vec<u8> {
 #[test]
 fn up_to_three_zeros_after_the_last_block_are_padding() {
     for padding in 0..=3 {
-        let (mut picture, mut map) = ([0; 32], [0, 1]);
+        let (mut picture, mut map, mut kept) = ([0; 32], [0, 1], fresh(SIZE));
         let chunk = fives_then(&vec![0; padding]);
-        let read = seatboard::read_chunk(SIZE, &chunk, &mut picture, &mut map);
+        let read = seatboard::read_chunk(&mut kept, &chunk, &mut picture, &mut map);
         assert_eq!(accepted(read), (6 + padding, 2));
         assert_eq!((picture, map), ([5; 32], [65_535; 2]));
+        assert_eq!(kept, record(SIZE, 0));
         let run = [&[chunk.len() as u8], &chunk[..]].concat();
         let length = run.len();
         assert_eq!(walk_run(SIZE, &run), ((0, length, 2), 1, 5, [65_535; 2]));
         let feed = [&[2, 1], &run[..]].concat();
-        let walked = seatboard::walk_feed(&feed, &mut picture, &mut map);
+        let walked = seatboard::walk_feed(&mut kept, &feed, &mut picture, &mut map);
         assert_eq!(accepted(walked), (2 + length, 2));
     }
 }
@@ -149,7 +165,7 @@ fn other_bytes_after_the_last_block_are_refused() {
 #[test]
 fn what_reads_and_writes_no_chunk_says_block_0() {
     let (picture, map) = (&mut [0; 128], &mut [0; 8]);
-    assert_eq!(exact::fresh_map(EIGHT, map), NOWHERE);
+    assert_eq!(exact::fresh_map(EIGHT, map).answer, NOWHERE);
     assert_eq!(exact::count(EIGHT, map).answer, NOWHERE);
     let file = dot_with(0, 0);
     assert_eq!(exact::paint_symbol(EIGHT, picture, &file, 0, 0, 0), NOWHERE);
@@ -171,20 +187,61 @@ fn maps_are_refused_by_size_and_length() {
         (Reason::BadLength, 0, 0)
     );
     assert_eq!(*map, [7; 2]);
+    // of what is refused the record has the lent size, and counts nothing
+    assert_eq!(exact::fresh_map(WRONG, map).record, record(WRONG, 0));
+    assert_eq!(exact::fresh_map(LONE, map).record, record(LONE, 0));
+}
+
+#[test]
+fn a_fresh_map_has_a_record() {
+    let map = &mut [7; 2];
+    assert_eq!(seatboard::fresh_map(SIZE, map), Ok(record(SIZE, 2)));
+    assert_eq!(*map, [0, 1]);
+}
+
+/// Walks a feed over a picture of zeros and a fresh map: the refusal, the last pixel, and map and count
+/// afterwards.
+fn walk_refused(mut kept: Record, feed: &[u8]) -> ((Reason, usize, usize), u8, [u16; 2], usize) {
+    let (mut picture, mut map, size) = ([0; 32], [0, 1], kept.size);
+    let answer = refused(seatboard::walk_feed(
+        &mut kept,
+        feed,
+        &mut picture,
+        &mut map,
+    ));
+    assert_eq!(kept.size, size);
+    (answer, picture[31], map, kept.unsettled)
 }
 
 #[test]
 fn feeds_are_refused_where_they_are_cut() {
-    let walk = |feed: &[u8]| {
-        let (mut picture, mut map) = ([0; 32], [0, 1]);
-        let answer = refused(seatboard::walk_feed(feed, &mut picture, &mut map));
-        (answer, picture[31], map)
-    };
-    assert_eq!(walk(&[2, 0x80, 0]), ((Reason::BadVarint, 1, 0), 0, [0, 1]));
-    assert_eq!(walk(&[2]), ((Reason::FeedCut, 1, 0), 0, [0, 1]));
-    // what was accepted before the end stays
+    let walk = |feed: &[u8]| walk_refused(fresh(SIZE), feed);
+    let bad = (Reason::BadVarint, 1, 0);
+    assert_eq!(walk(&[2, 0x80, 0]), (bad, 0, [0, 1], 2));
+    assert_eq!(walk(&[2]), ((Reason::FeedCut, 1, 0), 0, [0, 1], 2));
+    // what was accepted before the end stays, and the record goes with it
     let cut = [2, 1, 6, 0xE1, 0, 0, 6, 0x61, 5, 1];
-    assert_eq!(walk(&cut), ((Reason::FeedCut, 10, 0), 5, [65_535; 2]));
+    assert_eq!(walk(&cut), ((Reason::FeedCut, 10, 0), 5, [65_535; 2], 0));
+}
+
+#[test]
+fn a_feed_has_the_size_of_the_record() {
+    let upright = Size {
+        width: 4,
+        height: 8,
+    };
+    let fives = [6, 0xE1, 0, 0, 6, 0x61, 5];
+    let refused_with = |reason| ((reason, 0, 0), 0, [0, 1], 7);
+    let walk = |size, numbers: [u8; 2]| {
+        let feed = [&numbers[..], &fives].concat();
+        walk_refused(record(size, 7), &feed)
+    };
+    // buffers of the same lengths; a record of a size that is not allowed; a feed of one, which goes first
+    assert_eq!(walk(upright, [2, 1]), refused_with(Reason::BadLength));
+    assert_eq!(walk(SIZE, [1, 2]), refused_with(Reason::BadLength));
+    assert_eq!(walk(WRONG, [2, 1]), refused_with(Reason::BadLength));
+    assert_eq!(walk(SIZE, [0, 1]), refused_with(Reason::BadSize));
+    assert_eq!(walk(WRONG, [81, 1]), refused_with(Reason::BadSize));
 }
 
 /// The feed of paper 01's listing without its size numbers: block 0 is copied to block 1, the next
@@ -200,14 +257,21 @@ const RUN: [u8; 19] = [
 /// both ways of calling, the last pixel and the map.
 fn walk_run(size: Size, run: &[u8]) -> ((u8, usize, usize), usize, u8, [u16; 2]) {
     let (mut picture, mut map) = ([0; 32], [0, 1]);
-    let exact::Tally { answer, accepted } = exact::walk_run(size, run, &mut picture, &mut map);
-    let (mut same_picture, mut same_map) = ([0; 32], [0, 1]);
-    let tally = seatboard::walk_run(size, run, &mut same_picture, &mut same_map);
+    let exact::Tally {
+        answer,
+        accepted,
+        record,
+    } = exact::walk_run(fresh(size), run, &mut picture, &mut map);
+    let (mut same_picture, mut same_map, mut same_record) = ([0; 32], [0, 1], fresh(size));
+    let tally = seatboard::walk_run(&mut same_record, run, &mut same_picture, &mut same_map);
     let end = tally.end.map_or_else(
         |refused| (refused.reason.number(), refused.place, refused.block),
         |accepted| (0, accepted.length, accepted.block),
     );
     assert_eq!((same_picture, same_map), (picture, map));
+    assert_eq!(same_record, record);
+    let unsettled = seatboard::count_unsettled(size, &map);
+    assert_eq!(unsettled.unwrap_or(size.blocks()), record.unsettled);
     assert_eq!(
         (end, tally.accepted),
         ((answer.number, answer.place, answer.block), accepted)
@@ -237,16 +301,117 @@ fn a_run_is_refused_by_size_and_lengths_first() {
 #[test]
 fn what_a_run_accepted_before_its_end_stays_and_counts() {
     let after_run = |more: &[u8]| {
-        let (mut picture, mut map) = ([0; 32], [0, 1]);
+        let (mut picture, mut map, mut kept) = ([0; 32], [0, 1], fresh(SIZE));
         let run = [&RUN, more].concat();
-        let tally = seatboard::walk_run(SIZE, &run, &mut picture, &mut map);
+        let tally = seatboard::walk_run(&mut kept, &run, &mut picture, &mut map);
         assert_eq!((picture, map), ([5; 32], [65_535; 2]));
+        assert_eq!(kept, record(SIZE, 0));
         (tally.accepted, refused(tally.end))
     };
     assert_eq!(after_run(&[0x80, 0]), (2, (Reason::BadVarint, 19, 0)));
     assert_eq!(after_run(&[0x80]), (2, (Reason::FeedCut, 19, 0)));
     assert_eq!(after_run(&[0x80, 1, 0xE1]), (2, (Reason::FeedCut, 21, 0)));
     assert_eq!(after_run(&[6]), (2, (Reason::FeedCut, 20, 0)));
+}
+
+/// Block 0 copied to block 1, and both blocks kept.
+const COPIED: [u8; 6] = [0xE1, 0, 0, 6, 0x00, 0x20];
+const KEPT: [u8; 5] = [0xE1, 0, 0, 5, 0x01];
+
+/// Reads over a map of which one entry of two is unsettled, with this count lent: the count afterwards,
+/// or that nothing has changed. A run does the same.
+fn read_counted(chunk: &[u8], unsettled: usize) -> Option<usize> {
+    let (mut picture, mut map, mut kept) = ([7; 32], [0, 65_535], record(SIZE, unsettled));
+    let before = (picture, map, kept);
+    let run = [&[chunk.len() as u8], chunk].concat();
+    let tally = exact::walk_run(kept, &run, &mut picture.clone(), &mut map.clone());
+    let read = seatboard::read_chunk(&mut kept, chunk, &mut picture, &mut map);
+    assert_eq!((tally.accepted > 0, tally.record), (read.is_ok(), kept));
+    assert_eq!(tally.answer.number, 0);
+    if read.is_err() {
+        assert_eq!(refused(read), (Reason::BadCount, 0, 0));
+        assert_eq!((picture, map, kept), before);
+    }
+    read.ok().map(|_| kept.unsettled)
+}
+
+#[test]
+fn the_count_follows_each_chunk_within_its_bounds() {
+    // one block more is unsettled
+    assert_eq!(read_counted(&COPIED, 0), Some(1));
+    assert_eq!(read_counted(&COPIED, 1), Some(2));
+    assert_eq!(read_counted(&COPIED, 2), None);
+    assert_eq!(read_counted(&COPIED, usize::MAX), None);
+    // as many as before
+    assert_eq!(read_counted(&KEPT, 0), Some(0));
+    assert_eq!(read_counted(&KEPT, 2), Some(2));
+    assert_eq!(read_counted(&KEPT, 3), None);
+    assert_eq!(read_counted(&KEPT, usize::MAX), None);
+    // one less
+    assert_eq!(read_counted(&fives_then(&[]), 0), None);
+    assert_eq!(read_counted(&fives_then(&[]), 1), Some(0));
+    assert_eq!(read_counted(&fives_then(&[]), 3), Some(2));
+    assert_eq!(read_counted(&fives_then(&[]), 4), None);
+    assert_eq!(read_counted(&fives_then(&[]), usize::MAX), None);
+}
+
+#[test]
+fn a_chunk_that_gets_21_does_not_end_a_run() {
+    // of fresh map and count 1: both blocks settled would leave -1, one leaves 0
+    let half = [7, 0xE1, 0, 0, 7, 0x60, 9, 0x00];
+    let run = [&[6], &fives_then(&[])[..], &half].concat();
+    let (mut picture, mut map, mut kept) = ([0; 32], [0, 1], record(SIZE, 1));
+    let tally = seatboard::walk_run(&mut kept, &run, &mut picture, &mut map);
+    assert_eq!((accepted(tally.end), tally.accepted), ((15, 2), 1));
+    assert_eq!((picture[0], picture[31], map), (9, 0, [65_535, 1]));
+    assert_eq!(kept, record(SIZE, 0));
+}
+
+/// The record is private: it can only be what the calls have left.
+fn count_is_true(board: &Board) -> bool {
+    seatboard::count_unsettled(board.size(), board.map()) == Ok(board.unsettled())
+}
+
+#[test]
+fn a_board_does_what_slices_do() {
+    let mut board = Board::new(SIZE).expect("an allowed size");
+    assert_eq!((board.size(), board.unsettled()), (SIZE, 2));
+    assert_eq!((board.picture(), board.map()), (&[0; 32][..], &[0, 1][..]));
+    // block 1 is settled, and then unsettled
+    let read = board.read_chunk(&[0xE1, 0, 0, 7, 0x00, 0x60, 9]);
+    assert_eq!((accepted(read), board.unsettled()), ((7, 2), 1));
+    assert!(count_is_true(&board));
+    let walked = board.walk_feed(&[&[2, 1], &RUN[..7]].concat());
+    assert_eq!((accepted(walked), board.unsettled()), ((9, 2), 2));
+    assert!(count_is_true(&board) && board.map() == [0, 0]);
+    // ended by 13, with what was accepted before it
+    let ran = board.walk_run(&[&RUN[..], &[0x80]].concat());
+    assert_eq!(
+        (ran.accepted, refused(ran.end)),
+        (2, (Reason::FeedCut, 19, 0))
+    );
+    assert!(count_is_true(&board) && board.unsettled() == 0);
+    assert_eq!(board.picture(), [5; 32]);
+    let before = board.clone();
+    let other_size = board.walk_feed(&[1, 2]);
+    assert_eq!(refused(other_size), (Reason::BadLength, 0, 0));
+    assert_eq!(board, before);
+}
+
+#[test]
+fn a_board_of_any_size_is_made_or_refused() {
+    let sides = [0, 1, 4, 6, 200, 204, 320, 324, 1 << 32, 1 << 62, usize::MAX];
+    for (width, height) in sides.iter().flat_map(|w| sides.map(|h| (*w, h))) {
+        let size = Size { width, height };
+        let allowed = [4, 200, 204, 320].contains(&width) && [4, 200].contains(&height);
+        match Board::new(size) {
+            Ok(board) => assert!(allowed && count_is_true(&board) && board.size() == size),
+            Err(refusal) => {
+                assert!(!allowed);
+                assert_eq!(refused::<()>(Err(refusal)), (Reason::BadSize, 0, 0));
+            }
+        }
+    }
 }
 
 #[test]
@@ -335,15 +500,19 @@ fn symbols_are_refused_by_their_numbers() {
 #[test]
 fn reasons_are_in_the_order_of_their_numbers() {
     let numbers: Vec<u8> = Reason::ALL.iter().map(|reason| reason.number()).collect();
-    assert_eq!(numbers, Vec::from_iter(1..=20));
+    assert_eq!(numbers, Vec::from_iter(1..=21));
 }
 
 #[test]
 fn a_refusal_says_number_place_block_and_meaning() {
     let (chunk, picture, map) = (&[0xE1, 0, 0, 6, 0x00, 0xF0], &mut [0; 32], &mut [0; 2]);
-    let answer = exact::read_chunk(SIZE, chunk, picture, map);
+    let answer = exact::read_chunk(fresh(SIZE), chunk, picture, map).answer;
     assert_eq!((answer.number, answer.place, answer.block), (7, 5, 1));
-    let refused = seatboard::read_chunk(SIZE, chunk, picture, map);
+    let refused = seatboard::read_chunk(&mut fresh(SIZE), chunk, picture, map);
     let said = refused.err().map(|refused| refused.to_string());
     assert_eq!(said.as_deref(), Some("7 at 5, block 1: opcode F"));
+    let refused = seatboard::read_chunk(&mut record(SIZE, 3), &KEPT, picture, map);
+    let said = refused.err().map(|refused| refused.to_string());
+    let meaning = "the record's count would leave 0 to the number of blocks";
+    assert_eq!(said, Some(format!("21 at 0, block 0: {meaning}")));
 }

@@ -4,6 +4,7 @@ use libc::STDIN_FILENO;
 use libc::STDOUT_FILENO;
 use listing::Line;
 use spec::Decision;
+use spec::Record;
 use spec::Size;
 use spec::Step;
 ghost use Prim.Native.Nat.{_≤_};
@@ -19,22 +20,24 @@ fn print(line: Line)
 }
 
 // A line for each chunk, and the end line: `lines-step` (spec/proofs/Listing) is this loop.
-fn print_chunks(size: Size, feed: &[u8], first: usize, picture: &mut [u8], map: &mut [u16]) {
+fn print_chunks(lent: Record, feed: &[u8], first: usize, picture: &mut [u8], map: &mut [u16]) {
     let mut at = first;
     let mut chunk = 1;
+    let mut kept = lent;
     loop {
-        let listed = listing::list_step(size, feed, at, chunk, picture, map);
+        let listed = listing::list_step(kept, feed, at, chunk, picture, map);
         print(listed.line);
         let step = listed.step;
-        let Step::Chunk(_, past) = step else {
+        let Step::Chunk(read, past) = step else {
             return;
         };
+        kept = read.kept;
         at = past;
         chunk += 1;
     }
 }
 
-// A board in the room that is lent for it: an all-zero picture, and a map that is made fresh.
+// A board in the room that is lent for it: an all-zero picture, and a map that is made fresh, with its record.
 fn print_board(size: Size, feed: &[u8], first: usize, zeros: &mut [u8], room: &mut [u16])
     requires { ⌜ pixels size ≤ length (now zeros) ⌝ }
     requires { ⌜ blocks size ≤ length (now room) ⌝ }
@@ -43,9 +46,9 @@ fn print_board(size: Size, feed: &[u8], first: usize, zeros: &mut [u8], room: &m
     let blocks = size.width / 4 * (size.height / 4);
     let picture = &mut zeros[..pixels];
     let map = &mut room[..blocks];
-    board_map::fresh_map(size, map);
+    let fresh = board_map::fresh_map(size, map);
     print(listing::board_line(size));
-    print_chunks(size, feed, first, picture, map);
+    print_chunks(fresh.kept, feed, first, picture, map);
 }
 
 fn print_listing(feed: &[u8]) {

@@ -1,6 +1,8 @@
-// The fresh map and the unsettled count.
+// The fresh map with its record, and the unsettled count.
 use spec::Answer;
 use spec::Count;
+use spec::Record;
+use spec::Recorded;
 use spec::SETTLED;
 use spec::Size;
 ghost use mathlib.Core.Path.{_≡_};
@@ -30,19 +32,29 @@ fn number_entries(map: &mut [u16])
     }
 }
 
-// Makes a fresh map. A refusal leaves the map as it was.
-pub fn fresh_map(size: Size, map: &mut [u16]) -> Answer
-    ensures { λ r. ⌜ r ≡ freshMap size (now (map .entry)) .answer ⌝ }
+// Makes a fresh map, and gives its record. A refusal leaves the map as it was, and gives count 0.
+pub fn fresh_map(size: Size, map: &mut [u16]) -> Recorded
+    ensures { λ r. ⌜ r .answer ≡ freshMap size (now (map .entry)) .answer ⌝ }
+    ensures { λ r. ⌜ r .kept ≡ freshMap size (now (map .entry)) .kept ⌝ }
     ensures { λ _. ⌜ now (map .exit) ≡ freshMap size (now (map .entry)) .map ⌝ }
 {
     let number = sizes::map_fault(size, map.len());
-    if number == Answer::OK {
-        number_entries(map);
-    }
-    Answer {
+    let answer = Answer {
         number,
         place: 0,
         block: 0,
+    };
+    if number == Answer::OK {
+        number_entries(map);
+        let unsettled = map.len();
+        return Recorded {
+            answer,
+            kept: Record { size, unsettled },
+        };
+    }
+    Recorded {
+        answer,
+        kept: Record { size, unsettled: 0 },
     }
 }
 

@@ -2,6 +2,7 @@
 mod text;
 
 use spec::Answer;
+use spec::Record;
 use spec::Size;
 use spec::Step;
 use text::put_byte;
@@ -39,7 +40,7 @@ pub fn board_line(size: Size) -> Line
     Line { text, start }
 }
 
-// "1 0 6 2 2": the chunk's number, its answer's number and place, how many entries of the map are unsettled, and the answer's block
+// "1 0 6 2 2": the chunk's number, its answer's number and place, the record's count of unsettled entries, and the answer's block
 pub fn chunk_line(chunk: usize, answer: Answer, unsettled: usize) -> Line
     ensures { λ r. ⌜ drop (r .start) (r .text) ≡ chunkLine chunk answer unsettled ⌝ }
     ensures { λ r. ⌜ r .start ≤ length (r .text) ⌝ }
@@ -77,17 +78,14 @@ pub fn too_large_line() -> Line
     Line { text, start }
 }
 
-// The line of one step of the walk that has left this map.
-fn step_line(size: Size, chunk: usize, step: Step, map: &[u16]) -> Line
-    ensures { λ r. ⌜ drop (r .start) (r .text) ≡ stepLine size chunk step (now (map .entry)) ⌝ }
+// The line of one step of the walk, with the record's count.
+fn step_line(chunk: usize, step: Step) -> Line
+    ensures { λ r. ⌜ drop (r .start) (r .text) ≡ stepLine chunk step ⌝ }
     ensures { λ r. ⌜ r .start ≤ length (r .text) ⌝ }
 {
     match step {
         Step::End(answer) => end_line(answer),
-        Step::Chunk(answer, _) => {
-            let count = board_map::count_unsettled(size, map);
-            chunk_line(chunk, answer, count.unsettled)
-        }
+        Step::Chunk(read, _) => chunk_line(chunk, read.answer, read.kept.unsettled),
     }
 }
 
@@ -99,20 +97,20 @@ pub struct Listed {
 
 // Reads the chunk, the one of this number, whose length number stands at a place, and makes its line; or makes the end line.
 pub fn list_step(
-    size: Size,
+    kept: Record,
     feed: &[u8],
     at: usize,
     chunk: usize,
     picture: &mut [u8],
     map: &mut [u16],
 ) -> Listed
-    ensures { λ r. ⌜ r .step ≡ walkStep size (now (feed .entry)) at (board (now (picture .entry)) (now (map .entry))) .said ⌝ }
-    ensures { λ _. ⌜ now (picture .exit) ≡ walkStep size (now (feed .entry)) at (board (now (picture .entry)) (now (map .entry))) .board .picture ⌝ }
-    ensures { λ _. ⌜ now (map .exit) ≡ walkStep size (now (feed .entry)) at (board (now (picture .entry)) (now (map .entry))) .board .map ⌝ }
-    ensures { λ r. ⌜ drop (r .line .start) (r .line .text) ≡ stepLine size chunk (r .step) (now (map .exit)) ⌝ }
+    ensures { λ r. ⌜ r .step ≡ walkStep (kept .size) (now (feed .entry)) at (board (now (picture .entry)) (now (map .entry)) (kept .unsettled)) .said ⌝ }
+    ensures { λ _. ⌜ now (picture .exit) ≡ walkStep (kept .size) (now (feed .entry)) at (board (now (picture .entry)) (now (map .entry)) (kept .unsettled)) .board .picture ⌝ }
+    ensures { λ _. ⌜ now (map .exit) ≡ walkStep (kept .size) (now (feed .entry)) at (board (now (picture .entry)) (now (map .entry)) (kept .unsettled)) .board .map ⌝ }
+    ensures { λ r. ⌜ drop (r .line .start) (r .line .text) ≡ stepLine chunk (r .step) ⌝ }
     ensures { λ r. ⌜ r .line .start ≤ length (r .line .text) ⌝ }
 {
-    let step = feed::step(size, feed, at, picture, map);
-    let line = step_line(size, chunk, step, map);
+    let step = feed::step(kept, feed, at, picture, map);
+    let line = step_line(chunk, step);
     Listed { line, step }
 }

@@ -14,13 +14,13 @@ use Rattle.spec.specs.declared.Size.{Size}
 use Rattle.spec.specs.Basics.{if}
 use Rattle.spec.specs.Answers.{ok, answerAt, answer, checked}
 use Rattle.spec.specs.Sizes.{allowed, pixels, blocks, fault}
-use Rattle.spec.specs.Boards.{Board, board, Exact, exact, read}
+use Rattle.spec.specs.Boards.{Board, Exact, exact, read}
 use Rattle.spec.specs.Writing.{chunkFor, onto, Wrote, wrote, emit, write}
 use Rattle.spec.proofs.Lists.{checked-refused}
 use Rattle.spec.proofs.Limits.{exact-true, no-fault-lengths}
 use Rattle.trust.specs.RoundTrip.{marked}
 use Rattle.trust.proofs.RoundTrip.{reads-back}
-use Rattle.round_trip.specs.Trip.{Trip, trip, roundTrip}
+use Rattle.round_trip.specs.Trip.{lentBoard, Trip, trip, roundTrip}
 
 -- two choices by one test; and by one number, where it refuses
 by-both : {A B : Type 0} (P : A → B → Type 0) (t : Bool) {x y : A} {x′ y′ : B} → P x x′ → P y y′ → P (if t x y) (if t x′ y′)
@@ -39,7 +39,8 @@ data Goes (z : Size) (new : List ℕ) (b : Board) : Wrote → Trip → Type 0 wh
   refused : {a : Answer} {out : List ℕ} → a .number ≢ ok → Goes z new b (wrote a out) (trip a b out)
   written : (out : List ℕ) → length new ≡ pixels z
       → Goes z new b (wrote (answerAt ok (length (chunkFor z (b .picture) new)) (blocks z)) (onto (chunkFor z (b .picture) new) out))
-      (trip (answerAt ok (length (chunkFor z (b .picture) new)) (blocks z)) (board new (marked z (b .picture) new (b .map))) (onto (chunkFor z (b .picture) new) out))
+      (trip (answerAt ok (length (chunkFor z (b .picture) new)) (blocks z)) (lentBoard new (marked z (b .picture) new (b .map)))
+      (onto (chunkFor z (b .picture) new) out))
 
 module _ (z : Size) (new : List ℕ) (b : Board) (e : Exact z b) (out : List ℕ) where
   -- where the board is exact, both look for 1 and 2 alike
@@ -59,7 +60,7 @@ module _ (z : Size) (new : List ℕ) (b : Board) where
   is-refused (written out l) n = absurd (n refl)
 
   is-written : allowed z ≡ true → Exact z b → {w : Wrote} {t : Trip} → Goes z new b w t → w .answer .number ≡ ok
-      → let back = read z (take (w .answer .place) (w .output)) b in
+      → let back = read z (take (w .answer .place) (w .output)) (lentBoard (b .picture) (b .map)) in
       t ≡ trip (back .said) (back .board) (w .output)
   is-written fine e (refused h) n = absurd (h n)
   is-written fine e (written out l) n =
@@ -84,7 +85,9 @@ module _ (z : Size) (new : List ℕ) (b : Board) where
       pub written-long : a .place ≤ length o
       written-long = rw (ea, eo) (is-long (goes z new b e out) accepted)
 
-      pub trip-written : allowed z ≡ true → let back = read z (take (a .place) o) b in roundTrip z new b out ≡ trip (back .said) (back .board) o
+      pub trip-written : allowed z ≡ true
+          → let back = read z (take (a .place) o) (lentBoard (b .picture) (b .map)) in
+          roundTrip z new b out ≡ trip (back .said) (back .board) o
       trip-written fine = rw (ea, eo) (is-written fine e (goes z new b e out) accepted)
 
 -- what a trip is known to be, part by part

@@ -10,9 +10,14 @@ use Rattle.spec.specs.declared.Size.{Size}
 use Rattle.spec.specs.Basics.{if}
 use Rattle.spec.specs.Answers.{ok, outputShort, answerAt, answer, checked}
 use Rattle.spec.specs.Sizes.{pixels, blocks, fault}
+use Rattle.spec.specs.Maps.{unsettled}
 use Rattle.spec.specs.Boards.{Board, board, exact}
 use Rattle.spec.specs.Writing.{chunkFor, onto}
 use Rattle.trust.specs.RoundTrip.{marked}
+
+-- a picture and a map with the record that counting the map gives
+abbrev pub lentBoard : List ℕ → List ℕ → Board
+lentBoard pic m = board pic m (unsettled m)
 
 -- the answer, and what board and output then hold
 pub record Trip : Type 0 where
@@ -30,4 +35,4 @@ roundTrip z new b out =
     let chunk = chunkFor z (b .picture) new in
     checked (fault z (exact z b && eqb (length new) (pixels z))) (λ a. trip a b out)
     (if (ltb (length out) (length chunk)) (trip (answer outputShort 0) b out)
-    (trip (answerAt ok (length chunk) (blocks z)) (board new (marked z (b .picture) new (b .map))) (onto chunk out)))
+    (trip (answerAt ok (length chunk) (blocks z)) (lentBoard new (marked z (b .picture) new (b .map))) (onto chunk out)))

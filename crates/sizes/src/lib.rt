@@ -6,7 +6,7 @@ ghost use mathlib.Core.Bool.{_&&_};
 ghost use lib.Dec.{eqb};
 ghost use Rattle.spec.specs.Answers.{ok, badLength};
 ghost use Rattle.spec.specs.Basics.{if};
-ghost use Rattle.spec.specs.Sizes.{side, allowed, pixels, blocks, blocksIn, fault};
+ghost use Rattle.spec.specs.Sizes.{side, allowed, pixels, blocks, blocksIn, sameSize, fault};
 
 // Whether a picture's side may have this length, with `most` as its limit.
 fn is_side(most: usize, length: usize) -> bool
@@ -68,6 +68,26 @@ pub fn board_fault(size: Size, bytes: usize, entries: usize) -> u8
     if is_allowed(size) {
         if bytes == size.width * size.height {
             return map_fault(size, entries);
+        }
+        return Answer::BAD_LENGTH;
+    }
+    Answer::BAD_SIZE
+}
+
+// Whether two sizes are one.
+fn is_same(one: Size, other: Size) -> bool
+    ensures { λ r. ⌜ r ≡ sameSize one other ⌝ }
+{
+    one.width == other.width && one.height == other.height
+}
+
+// 1 for a feed's own size, or 2 where that is not the board's, or for a picture of so many bytes and a map of so many entries, or 0.
+pub fn feed_fault(own: Size, size: Size, bytes: usize, entries: usize) -> u8
+    ensures { λ r. ⌜ r ≡ fault own (sameSize own size && (eqb bytes (pixels own) && eqb entries (blocks own))) ⌝ }
+{
+    if is_allowed(own) {
+        if is_same(own, size) {
+            return board_fault(own, bytes, entries);
         }
         return Answer::BAD_LENGTH;
     }

@@ -17,8 +17,8 @@ use Rattle.spec.specs.Flags.{flags, chosen}
 use Rattle.spec.specs.Chunks.{kindOf, store, named, capacity, upperAt}
 use Rattle.spec.proofs.Cells.{entry-room}
 use Rattle.spec.proofs.Parts.{length-part, part-sets}
-use Rattle.smc.specs.declared.heads.Lead.{Lead}
-use Rattle.smc.specs.Heads.{Leads}
+use Rattle.smc_check.specs.declared.heads.Lead.{Lead}
+use Rattle.smc_check.specs.Heads.{Leads}
 use Rattle.smc.specs.Runs.{puts, marks}
 use Rattle.smc.specs.Tables.{colours, size, Entered}
 use Rattle.smc.specs.Painting.{Room, Tabled}
@@ -30,7 +30,8 @@ pub lent-part : (l : List ℕ) (q w : ℕ) → take (q + w - q) (drop q l) ≡ p
 lent-part l q w = let e : q + w - q ≡ w = omega arith in rw e
 
 -- the table stays as long as it was
-pub entered-length : {w : ℕ} {l : List ℕ} {next : ℕ} {s : List ℕ} {q u v : ℕ} {l′ : List ℕ} {e rest next′ : ℕ} → Entered w l next s q u v l′ e rest next′ → length l′ ≡ length l
+pub entered-length : {w : ℕ} {l : List ℕ} {next : ℕ} {s : List ℕ} {q u v : ℕ} {l′ : List ℕ} {e rest next′ : ℕ} → Entered w l next s q u v l′ e rest next′
+    → length l′ ≡ length l
 entered-length {w} {l} {next} {s} {q} {u} {v} {l′} en = by (ℕ-discrete u v)
   where
     by : Dec (u ≡ v) → length l′ ≡ length l
@@ -79,8 +80,11 @@ module _ {x u : ℕ} (table : Uses x u) (c r : ℕ) {s : List ℕ} {at k : ℕ} 
     entry-stored room byte t =
         let q = eqb-true (lead .upper) u t in
         let w = entry-whole q in
-        let f = length-part s (lead .body) (colours x) w in
-        (w, sym (rw (en .stored q .0, en .stored q .1) (part-sets l (colours x * next) (part s (lead .body) (colours x)) (colours x) f (omega (arith, entry-room (colours x) next capacity byte)))))
+        let f = length-part s (lead .body) (colours x) w in (
+          w,
+          sym (rw (en .stored q .0, en .stored q .1)
+              (part-sets l (colours x * next) (part s (lead .body) (colours x)) (colours x) f (omega (arith, entry-room (colours x) next capacity byte)))),
+        )
 
     pub entry-room-left : length l ≡ size x → e + colours x ≤ length l′
     entry-room-left room = rw (entered-length en, room) (en .room)
@@ -101,10 +105,13 @@ module _ {x u : ℕ} (table : Uses x u) (c r : ℕ) {s : List ℕ} {at k : ℕ} 
         by : Dec (lead .upper ≡ u) → Tabled x c r s at k pic m l next pic′ m′ l′ (rest + 2 * x * lead .count) (k + lead .count) next′
         by (yes q) =
             let t = en .stored q in
-            tabled-store x (table .some) (table .most) c r wide s at k pic m l next (g .within) (lead .count) (el .count) (lead .body) (el .body) rest pic′ m′ em
-            (kind-of g el q ∙ table .stores) (t .2) (entry-whole q) (omega (arith, entry-room (colours x) next capacity byte)) l′ (t .0) (rw (← t .1) ep) next′ (t .3)
+            tabled-store x (table .some) (table .most) c r wide s at k pic m l next (g .within) (lead .count) (el .count) (lead .body)
+            (el .body) rest pic′ m′ em
+            (kind-of g el q ∙ table .stores) (t .2) (entry-whole q) (omega (arith, entry-room (colours x) next capacity byte)) l′ (t .0) (rw (← t .1) ep) next′
+            (t .3)
         by (no q) =
             let t = en .named q in
             rw (t .0, t .3)
-            (tabled-named x (table .some) (table .most) c r wide s at k pic m l next (g .within) (lead .count) (el .count) (lead .body) (el .body) rest pic′ m′ em
+            (tabled-named x (table .some) (table .most) c r wide s at k pic m l next (g .within) (lead .count) (el .count) (lead .body)
+            (el .body) rest pic′ m′ em
             (kind-other g el q h ∙ table .names) (t .2) (getD s (lead .body) 0) refl (rw (t .0, t .1) at ep))

@@ -23,7 +23,8 @@ pub four-chosen : (bits x : ℕ) (cs : List ℕ) → Four (chosen (digits bits 4
 unfolding digits
 four-chosen bits x cs = four
 
-pub quad-row : (t : List ℕ) (f : ℕ) → f < 256 → getD t (f / 64) 0 ∷ getD t (f / 16 % 4) 0 ∷ getD t (f / 4 % 4) 0 ∷ getD t (f % 4) 0 ∷ [] ≡ chosen (digits 2 4 f) t
+pub quad-row : (t : List ℕ) (f : ℕ) → f < 256 → getD t (f / 64) 0 ∷ getD t (f / 16 % 4) 0 ∷ getD t (f / 4 % 4) 0 ∷ getD t (f % 4) 0 ∷ []
+    ≡ chosen (digits 2 4 f) t
 unfolding digits
 quad-row t f h =
     let q0 : f / 64 % 4 ≡ f / 64 = omega arith in
@@ -34,7 +35,8 @@ pub octet-rows : (cs : List ℕ) (f0 f1 f2 f3 f4 f5 : ℕ) → f1 < 256 → f2 <
     → inRows (λ f g. chosen (digits 3 4 (f * 16 + g)) cs) f0 f1 f2 f3 f4 f5 ≡ chosen (flags 3 (f0 ∷ f1 ∷ f2 ∷ f3 ∷ f4 ∷ f5 ∷ [])) cs
 octet-rows cs f0 f1 f2 f3 f4 f5 h1 h2 h3 h5 =
     let row : ℕ → ℕ → List ℕ = λ f g. digits 3 4 (f * 16 + g) in
-    sym (chosen-rows cs (row f0 (f1 / 16)) (row f2 (f3 / 16)) (row f4 (f5 / 16)) (row (f1 % 16 * 16 + f3 % 16) (f5 % 16)) _ (octet-flags f0 f1 f2 f3 f4 f5 h1 h2 h3 h5))
+    sym (chosen-rows cs (row f0 (f1 / 16)) (row f2 (f3 / 16)) (row f4 (f5 / 16)) (row (f1 % 16 * 16 + f3 % 16) (f5 % 16)) _
+    (octet-flags f0 f1 f2 f3 f4 f5 h1 h2 h3 h5))
 
 pub pair-rows : (cs : List ℕ) (f g : ℕ) → g < 256
     → chosen (digits 1 4 (f / 16)) cs ++ chosen (digits 1 4 (f % 16)) cs ++ chosen (digits 1 4 (g / 16)) cs ++ chosen (digits 1 4 (g % 16)) cs

@@ -13,7 +13,27 @@ use Rattle.spec.specs.Answers.{chunkShort, lengthDiffers, answerAt, answer}
 use Rattle.spec.specs.Flags.{number}
 use Rattle.spec.specs.Maps.{remap}
 use Rattle.spec.specs.Pictures.{paint}
-use Rattle.spec.specs.Chunks.{Head, fills, missing, upperAt, countAt, bodyAt, opcode, act, step, State, start, emptied, Outcome, refused, accepted, padding, resume, loop, decode}
+use Rattle.spec.specs.Chunks.{
+  Head,
+  fills,
+  missing,
+  upperAt,
+  countAt,
+  bodyAt,
+  opcode,
+  act,
+  step,
+  State,
+  start,
+  emptied,
+  Outcome,
+  refused,
+  accepted,
+  padding,
+  resume,
+  loop,
+  decode,
+}
 use Rattle.spec.proofs.Heads.{Known, bad, good, known-head, body-after}
 use Rattle.spec.proofs.Loops.{unroll, loop-remains, loop-accepts, loop-follows}
 use Rattle.spec.proofs.Made.{length-extend}
@@ -76,7 +96,8 @@ module _ (n : ℕ) (s : List ℕ) (g : Accepts (decode n s)) (st : State) (same 
       by false e = absurd (never (decode n s) g _ (same ∙ loop-follows n s (length s) st l e))
 
 -- the loop stands inside a state from which `decode` goes on
-pub record Going (c r : ℕ) (s pic₀ map₀ : List ℕ) (at k : ℕ) (l₁ : List ℕ) (n₁ : ℕ) (l₂ : List ℕ) (n₂ : ℕ) (l₃ : List ℕ) (n₃ : ℕ) (pic m : List ℕ) : Type 0 where
+pub record Going (c r : ℕ) (s pic₀ map₀ : List ℕ) (at k : ℕ) (l₁ : List ℕ) (n₁ : ℕ) (l₂ : List ℕ) (n₂ : ℕ) (l₃ : List ℕ) (n₃ : ℕ) (pic m : List ℕ)
+    : Type 0 where
   pub st : State
   pub inside : Inside c r pic₀ map₀ at k l₁ n₁ l₂ n₂ l₃ n₃ pic m st
   pub same : decode (c * r) s ≡ loop (length s) (c * r) s st
@@ -108,7 +129,8 @@ module _ (c r : ℕ) (s pic₀ map₀ : List ℕ) (a : Accepts (decode (c * r) s
         lent = lent;
       }
 
-  module _ (at k : ℕ) (l₁ : List ℕ) (n₁ : ℕ) (l₂ : List ℕ) (n₂ : ℕ) (l₃ : List ℕ) (n₃ : ℕ) (pic m : List ℕ) (g : Going c r s pic₀ map₀ at k l₁ n₁ l₂ n₂ l₃ n₃ pic m) where
+  module _ (at k : ℕ) (l₁ : List ℕ) (n₁ : ℕ) (l₂ : List ℕ) (n₂ : ℕ) (l₃ : List ℕ) (n₃ : ℕ) (pic m : List ℕ)
+      (g : Going c r s pic₀ map₀ at k l₁ n₁ l₂ n₂ l₃ n₃ pic m) where
     pub opens : k < c * r → Opens (c * r) s at k (g .st)
     opens l =
         let i = g .inside in

@@ -1,10 +1,5 @@
 pub mod RowsPut
 pub mod Flagged
-pub mod Leads
-pub mod Counting
-pub mod Filling
-pub mod Ways
-pub mod Behind
 pub mod Factors
 pub mod Held
 pub mod Runwise

@@ -18,7 +18,7 @@ use Rattle.smc.specs.Runs.{puts, marks, copied, moved}
 use Rattle.smc.specs.Shows.{Shows}
 use Rattle.smc.specs.Tables.{colours, Holds}
 use Rattle.smc.specs.Painting.{kindAt, blocksAt, Ran, Tabled}
-use Rattle.smc.proofs.Filling.{stored-same, stored-none-of}
+use Rattle.smc_check.proofs.Filling.{stored-same, stored-none-of}
 use Rattle.smc.proofs.Held.{holds-put, holds-cell}
 use Rattle.smc.proofs.Showing.{shows-puts, shows-copied, shows-skipped}
 
@@ -46,14 +46,16 @@ module _ (c r : ℕ) (wide : 0 < c) (s pic₀ map₀ : List ℕ) (st : State) (k
       → Shows c r pic₀ map₀ (extend (store b) hs s q n st) (puts c k (λ i. chosen (flags b (part s (q + 2 * b * i) (2 * b))) cs) n pic) (marks k n m)
   unfolding extend blocksBy
   made-store b cs e =
-      subst (λ (y : List ℕ). Shows c r pic₀ map₀ (extend (store b) hs s q n st) (puts c k (λ i. chosen (flags b (part s (q + 2 * b * i) (2 * b))) y) n pic) (marks k n m)) e
+      subst (λ (y : List ℕ). Shows c r pic₀ map₀ (extend (store b) hs s q n st) (puts c k (λ i. chosen (flags b (part s (q + 2 * b * i) (2 * b))) y) n pic)
+      (marks k n m)) e
       (shows-puts c r wide pic₀ map₀ (st .made) pic m g k ek (λ i. chosen (flags b (part s (q + 2 * b * i) (2 * b))) hs) n h)
 
   made-named : (b : ℕ) (cs : List ℕ) → getD (table st b .cells) (getD hs 0 0) [] ≡ cs
       → Shows c r pic₀ map₀ (extend (named b) hs s q n st) (puts c k (λ i. chosen (flags b (part s (q + 2 * b * i) (2 * b))) cs) n pic) (marks k n m)
   unfolding extend blocksBy
   made-named b cs e =
-      subst (λ (y : List ℕ). Shows c r pic₀ map₀ (extend (named b) hs s q n st) (puts c k (λ i. chosen (flags b (part s (q + 2 * b * i) (2 * b))) y) n pic) (marks k n m)) e
+      subst (λ (y : List ℕ). Shows c r pic₀ map₀ (extend (named b) hs s q n st) (puts c k (λ i. chosen (flags b (part s (q + 2 * b * i) (2 * b))) y) n pic)
+      (marks k n m)) e
       (shows-puts c r wide pic₀ map₀ (st .made) pic m g k ek
       (λ i. chosen (flags b (part s (q + 2 * b * i) (2 * b))) (getD (table st b .cells) (getD hs 0 0) [])) n h)
 
@@ -89,7 +91,8 @@ module _ (c r : ℕ) (wide : 0 < c) (s : List ℕ) (at k : ℕ) (pic m : List �
         goes = rw (e, ← eb) (omega arith);
         makes = rw (e, ← en) (omega arith);
         shows = λ st pic₀ map₀ ek g.
-            rw (e, ← eb, ← en, o, ep, em) (made-fill c r wide s pic₀ map₀ st k ek pic m g (part s b 1) (b + 1) n (rw (e, ← en, o) at w) (getD s b 0) (first-byte s b));
+            rw (e, ← eb, ← en, o, ep, em)
+            (made-fill c r wide s pic₀ map₀ st k ek pic m g (part s b 1) (b + 1) n (rw (e, ← en, o) at w) (getD s b 0) (first-byte s b));
       }
 
   pub ran-whole : kindAt s at ≡ whole → (pic′ m′ : List ℕ) → pic′ ≡ puts c k (λ i. part s (b + 16 * i) 16) n pic → m′ ≡ marks k n m
@@ -114,13 +117,15 @@ module _ (x : ℕ) (some : x ≢ 0) (most : x < 4) (c r : ℕ) (wide : 0 < c) (s
   tabled-store e eq hs hl l′ el ep next′ en′ =
       let o = one-mul n in
       let len = length-part s b (colours x) hs in
-      let found : part s b (colours x) ≡ part l′ (colours x * next) (colours x) = sym (rw el (part-sets l (colours x * next) (part s b (colours x)) (colours x) len hl)) in
+      let found : part s b (colours x) ≡ part l′ (colours x * next) (colours x)
+      = sym (rw el (part-sets l (colours x * next) (part s b (colours x)) (colours x) len hl)) in
       record {
         goes = rw (e, ← eb, ← en, o, ← eq);
         makes = rw (e, ← en, o);
         shows = λ st pic₀ map₀ ek hold full g.
             rw (e, ← eb, ← en, o, ← eq, ep, em)
-            (made-store c r wide s pic₀ map₀ st k ek pic m g (part s b (colours x)) q n (rw (e, ← en, o) at w) x (part l′ (colours x * next) (colours x)) found);
+            (made-store c r wide s pic₀ map₀ st k ek pic m g (part s b (colours x)) q n (rw (e, ← en, o) at w) x
+            (part l′ (colours x * next) (colours x)) found);
         holds = λ st four hold.
             rw (e, ← eb, en′, el, stored-same (store x) (part s b (colours x)) (st .tables) x refl some (rw four most))
             (holds-put x l next (table st x) hold (part s b (colours x)) len);
@@ -137,7 +142,8 @@ module _ (x : ℕ) (some : x ≢ 0) (most : x < 4) (c r : ℕ) (wide : 0 < c) (s
         makes = rw (e, ← en, o);
         shows = λ st pic₀ map₀ ek hold full g.
             rw (e, ← eb, ← en, o, ← eq, ep, em)
-            (made-named c r wide s pic₀ map₀ st k ek pic m g (part s b 1) q n (rw (e, ← en, o) at w) x (part l (colours x * y) (colours x)) (cell st hold (rw eb full)));
+            (made-named c r wide s pic₀ map₀ st k ek pic m g (part s b 1) q n (rw (e, ← en, o) at w) x (part l (colours x * y) (colours x))
+            (cell st hold (rw eb full)));
         holds = λ st four hold. rw (e, ← eb, stored-none-of (named x) (part s b 1) (st .tables) refl) hold;
       }
     where

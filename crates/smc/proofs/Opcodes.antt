@@ -8,8 +8,8 @@ use native.Mathlib.Omega.{arith}
 use lib.ListN.{length}
 use Rattle.spec.specs.Chunks.{Kind, kindOf, times, reach, once, each, stores, upperAt, bodyAt}
 use Rattle.spec.proofs.Computed.{agree-at}
-use Rattle.smc.specs.declared.heads.Lead.{Lead}
-use Rattle.smc.specs.Heads.{Leads}
+use Rattle.smc_check.specs.declared.heads.Lead.{Lead}
+use Rattle.smc_check.specs.Heads.{Leads}
 use Rattle.smc.specs.Painting.{kindAt, Room}
 
 -- its kind, by the upper half-byte

@@ -15,7 +15,8 @@ use Rattle.smc.specs.Runs.{putEach, markEach, puts, marks, copied, moved
 use Rattle.smc.specs.Shows.{Shows}
 
 -- one block given, one copied, one skipped
-module _ (c r : ℕ) (wide : 0 < c) (pic₀ map₀ : List ℕ) (made : List Origin) (pic m : List ℕ) (g : Shows c r pic₀ map₀ made pic m) (h : length made < c * r) where
+module _ (c r : ℕ) (wide : 0 < c) (pic₀ map₀ : List ℕ) (made : List Origin) (pic m : List ℕ) (g : Shows c r pic₀ map₀ made pic m)
+    (h : length made < c * r) where
   shows-given : (px : List ℕ) → Shows c r pic₀ map₀ (made ++ given px ∷ []) (putBlock c (length made) px pic) (set m (length made) settled)
   shows-given px =
       record {

@@ -12,7 +12,7 @@ use Rattle.spec.proofs.Made.{length-extend}
 use Rattle.smc.specs.Tables.{Holds}
 use Rattle.smc.specs.Shows.{Shows}
 use Rattle.smc.specs.Painting.{kindAt, blocksAt, endAt, after, Ran, Tabled, Inside, Turned}
-use Rattle.smc.proofs.Filling.{length-stored, stored-other}
+use Rattle.smc_check.proofs.Filling.{length-stored, stored-other}
 
 module _ (s : List ℕ) (at : ℕ) where
   counts : (k k′ : ℕ) (st : State) → k ≡ length (st .made) → k′ ≡ k + blocksAt s at → k′ ≡ length (after s at st .made)

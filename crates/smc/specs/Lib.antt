@@ -1,8 +1,6 @@
 -- What the reader's parts go by among themselves. A user of `read_chunk` needs none of it.
 pub mod Tables
 pub mod Factors
-pub mod Heads
-pub mod Checking
 pub mod Runs
 pub mod Shows
 pub mod Painting

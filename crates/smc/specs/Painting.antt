@@ -6,7 +6,26 @@ use mathlib.Core.Bool.{false}
 use lib.ListN.{length, getD}
 use Rattle.spec.specs.Basics.{part}
 use Rattle.spec.specs.Pictures.{Origin}
-use Rattle.spec.specs.Chunks.{Kind, kindOf, times, reach, once, each, missing, fills, upperAt, countAt, bodyAt, extend, stored, State, table, Outcome, refused, accepted}
+use Rattle.spec.specs.Chunks.{
+  Kind,
+  kindOf,
+  times,
+  reach,
+  once,
+  each,
+  missing,
+  fills,
+  upperAt,
+  countAt,
+  bodyAt,
+  extend,
+  stored,
+  State,
+  table,
+  Outcome,
+  refused,
+  accepted,
+}
 use Rattle.blocks.specs.Blocks.{Canvas}
 use Rattle.smc.specs.Tables.{Holds}
 use Rattle.smc.specs.Shows.{Shows}
@@ -75,7 +94,8 @@ pub record Tabled (b c r : ℕ) (s : List ℕ) (at k : ℕ) (pic m l : List ℕ)
   pub holds : (st : State) → length (st .tables) ≡ 4 → Holds b l next (table st b) → Holds b l′ next′ (table (after s at st) b)
 
 -- the state that the loop's locals hold
-pub record Inside (c r : ℕ) (pic₀ map₀ : List ℕ) (at k : ℕ) (l₁ : List ℕ) (n₁ : ℕ) (l₂ : List ℕ) (n₂ : ℕ) (l₃ : List ℕ) (n₃ : ℕ) (pic m : List ℕ) (st : State) : Type 0 where
+pub record Inside (c r : ℕ) (pic₀ map₀ : List ℕ) (at k : ℕ) (l₁ : List ℕ) (n₁ : ℕ) (l₂ : List ℕ) (n₂ : ℕ) (l₃ : List ℕ) (n₃ : ℕ) (pic m : List ℕ) (st : State)
+    : Type 0 where
   pub ats : at ≡ st .at
   pub ks : k ≡ length (st .made)
   pub four : length (st .tables) ≡ 4

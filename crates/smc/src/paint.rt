@@ -1,7 +1,6 @@
 // The paint pass: it runs on an accepted chunk only, in place, block by block in order, and cannot fail. Here s[at] is the next opcode, and k
 // how many blocks have had their turn. Each opcode's function reads its lead again: that is cheaper than to keep what the check pass read.
 use crate::flags;
-use crate::heads;
 use crate::runs;
 use crate::tables;
 use crate::tables::OctetTable;
@@ -54,7 +53,7 @@ fn plain_op(
     requires { ⌜ upperAt (now s) at < 8 ⌝ }
     ensures { λ m. ⌜ Ran c r (now (s .entry)) at k (now (pic .entry)) (now (map .entry)) (now (pic .exit)) (now (map .exit)) (m .at) (m .k) ⌝ }
 {
-    let lead = heads::lead_at(s, at);
+    let lead = smc_check::lead_at(s, at);
     let n = lead.count;
     let body = lead.body;
     if 6 <= lead.upper {
@@ -98,7 +97,7 @@ fn pair_op(
     requires { ⌜ Factors (now factors) ⌝ }
     ensures { λ m. ⌜ Tabled 1 c r (now (s .entry)) at k (now (pic .entry)) (now (map .entry)) (now (t .entry)) next (now (pic .exit)) (now (map .exit)) (now (t .exit)) (m .at) (m .k) (m .next) ⌝ }
 {
-    let lead = heads::lead_at(s, at);
+    let lead = smc_check::lead_at(s, at);
     let n = lead.count;
     let entry = tables::entry_of(t, PairTable::COLOURS, lead.upper, 8, next, s, lead.body);
     let rest = entry.rest;
@@ -136,7 +135,7 @@ fn quad_op(
     requires { ⌜ length (now t) ≡ size 2 ⌝ }
     ensures { λ m. ⌜ Tabled 2 c r (now (s .entry)) at k (now (pic .entry)) (now (map .entry)) (now (t .entry)) next (now (pic .exit)) (now (map .exit)) (now (t .exit)) (m .at) (m .k) (m .next) ⌝ }
 {
-    let lead = heads::lead_at(s, at);
+    let lead = smc_check::lead_at(s, at);
     let n = lead.count;
     let entry = tables::entry_of(t, QuadTable::COLOURS, lead.upper, 10, next, s, lead.body);
     let rest = entry.rest;
@@ -174,7 +173,7 @@ fn octet_op(
     requires { ⌜ length (now t) ≡ size 3 ⌝ }
     ensures { λ m. ⌜ Tabled 3 c r (now (s .entry)) at k (now (pic .entry)) (now (map .entry)) (now (t .entry)) next (now (pic .exit)) (now (map .exit)) (now (t .exit)) (m .at) (m .k) (m .next) ⌝ }
 {
-    let lead = heads::lead_at(s, at);
+    let lead = smc_check::lead_at(s, at);
     let n = lead.count;
     let entry = tables::entry_of(t, OctetTable::COLOURS, lead.upper, 12, next, s, lead.body);
     let rest = entry.rest;
@@ -209,7 +208,7 @@ fn whole_op(
     requires { ⌜ 14 ≤ upperAt (now s) at ⌝ }
     ensures { λ m. ⌜ Ran c r (now (s .entry)) at k (now (pic .entry)) (now (map .entry)) (now (pic .exit)) (now (map .exit)) (m .at) (m .k) ⌝ }
 {
-    let lead = heads::lead_at(s, at);
+    let lead = smc_check::lead_at(s, at);
     let n = lead.count;
     let body = lead.body;
     runs::whole_run(pic, map, c, r, k, n, s, body);
@@ -256,7 +255,7 @@ fn turn(
     requires { ⌜ Factors (now factors) ⌝ }
     ensures { λ m. ⌜ Turned c r (now (s .entry)) at k (now (pairs .entry)) p (now (quads .entry)) q (now (octets .entry)) o (now (pic .entry)) (now (map .entry)) (m .at) (m .k) (now (pairs .exit)) (m .pairs) (now (quads .exit)) (m .quads) (now (octets .exit)) (m .octets) (now (pic .exit)) (now (map .exit)) ⌝ }
 {
-    let upper = heads::wide(s[at]) / 16;
+    let upper = smc_check::wide(s[at]) / 16;
     if 14 <= upper {
         let m = whole_op(c, r, s, at, k, pic, map);
         return onward(m.at, m.k, p, q, o);

@@ -1,5 +1,4 @@
 // The three colour tables of a chunk. A table is one run of colours, entry after entry, and the number of its next entry.
-use crate::heads;
 ghost use mathlib.Core.Path.{_≡_};
 ghost use mathlib.Core.Bool.{true};
 ghost use Prim.Native.Nat.{_+_, _*_, _%_, _≤_, _<_};
@@ -128,7 +127,7 @@ pub fn entry_of(
         };
     }
     Entry {
-        at: w * heads::wide(s[q]),
+        at: w * smc_check::wide(s[q]),
         rest: q + 1,
         next,
     }

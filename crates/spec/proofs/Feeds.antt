@@ -10,6 +10,7 @@ use lib.Dec.{ltb}
 use borrow.Author.Tests.{ltb-true, ltb-false, le-ltb}
 use Rattle.spec.specs.declared.Answer.{Answer}
 use Rattle.spec.specs.declared.Size.{Size}
+use Rattle.spec.specs.declared.Recorded.{Recorded}
 use Rattle.spec.specs.declared.Varint.{Varint}
 use Rattle.spec.specs.declared.Varint.the-variants.{Bad, Value}
 use Rattle.spec.specs.declared.Next.{Next}
@@ -18,6 +19,7 @@ use Rattle.spec.specs.declared.Step.{Step}
 use Rattle.spec.specs.declared.Step.the-variants as Step
 use Rattle.spec.specs.Basics.{if}
 use Rattle.spec.specs.Answers.{ok, answer}
+use Rattle.spec.specs.Maps.{recordOf}
 use Rattle.spec.specs.Boards.{Board, Left, left, inTurn}
 use Rattle.spec.specs.Feeds.{varintAt, chunkAt, nextAt, Chunks, andOnward, chunksFrom, Reply, reply, readAll, stepBy, walkStep}
 use Rattle.spec.proofs.Fuel.{by-fuel, fuel-end, fuel-enough, fuel-turn}
@@ -112,24 +114,27 @@ abbrev pub saidFirst : Answer → Left Reply → Left Reply
 saidFirst a l = left (reply (a ∷ l .said .inside) (l .said .answer)) (l .board)
 
 -- What one step, over the board b, leaves to do of the chunks `cs`: those after it over the board that it left; or nothing
-pub record Onward (z : Size) (s : List ℕ) (fuel at : ℕ) (cs : Chunks) (b : Board) (a : Answer) (past : ℕ) (after : Board) : Type 0 where
+pub record Onward (z : Size) (s : List ℕ) (fuel at : ℕ) (cs : Chunks) (b : Board) (r : Recorded) (past : ℕ) (after : Board) : Type 0 where
   pub further : at < past
   pub within : past ≤ length s
-  pub walked : readAll z cs b ≡ saidFirst a (readAll z (chunksFrom fuel s past) after)
+  pub walked : readAll z cs b ≡ saidFirst (r .answer) (readAll z (chunksFrom fuel s past) after)
+  -- the record that was handed back is the board's
+  pub kept : r .kept ≡ recordOf z (after .kept)
 
 pub record Over (z : Size) (cs : Chunks) (b : Board) (a : Answer) (after : Board) : Type 0 where
   pub walked : readAll z cs b ≡ left (reply [] a) after
+  pub kept : b .kept ≡ after .kept
 
 module _ (z : Size) (s : List ℕ) (fuel : ℕ) where
   abbrev pub Stepped : ℕ → Chunks → Board → Step → Board → Type 0
   Stepped at cs b (Step.End a) after = Over z cs b a after
-  Stepped at cs b (Step.Chunk a past) after = Onward z s fuel at cs b a past after
+  Stepped at cs b (Step.Chunk r past) after = Onward z s fuel at cs b r past after
 
   stepped-by : (at : ℕ) (b : Board) (x : Next) → Stands s at x
       → Stepped at (andOnward (λ p. chunksFrom fuel s p) s at x) b (stepBy z s x b .said) (stepBy z s x b .board)
   unfolding inTurn
-  stepped-by at b (Next.End a) e = record { walked = refl }
-  stepped-by at b (Next.Chunk first past) l = record { further = omega arith; within = l .within; walked = refl }
+  stepped-by at b (Next.End a) e = record { walked = refl; kept = refl }
+  stepped-by at b (Next.Chunk first past) l = record { further = omega arith; within = l .within; walked = refl; kept = refl }
 
   pub stepped : length s ≤ fuel → (at : ℕ) (b : Board) → Stepped at (chunksFrom fuel s at) b (walkStep z s at b .said) (walkStep z s at b .board)
   unfolding walkStep

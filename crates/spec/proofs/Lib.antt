@@ -25,5 +25,6 @@ pub mod Padding
 pub mod Loops
 pub mod Feeds
 pub mod Runs
-pub mod Listing
+pub mod Records
 pub mod Boards
+pub mod Listing

@@ -1,8 +1,8 @@
 -- What an allowed size is good for, and the checks that come first. Assumes nothing.
 use Prim.Native.Nat.{ℕ, _*_, _/_, _%_, _<_, _≤_}
-use mathlib.Core.Path.{_≡_, refl}
+use mathlib.Core.Path.{_≡_, refl, sym, ap, _∙_}
 use mathlib.Core.Logic.{_≢_}
-use mathlib.Core.Bool.{Bool, true, false, _&&_, and-eq-true-iff}
+use mathlib.Core.Bool.{Bool, true, false, _&&_, and-eq-true-iff, true≢false}
 use native.Mathlib.Nat.{mul-le-mul, mul-pos}
 use native.Mathlib.Omega.{arith}
 use lib.Dec.{eqb, leb}
@@ -11,7 +11,7 @@ use borrow.Author.Tests.{eq-eqb, eqb-true, leb-true}
 use Rattle.spec.specs.declared.Size.{Size}
 use Rattle.spec.specs.Basics.{if}
 use Rattle.spec.specs.Answers.{ok, badSize, badLength}
-use Rattle.spec.specs.Sizes.{side, maxWidth, maxHeight, maxColumns, maxLines, maxBlocks, maxPixels, allowed, pixels, columns, lines, blocks, blocksIn, fault}
+use Rattle.spec.specs.Sizes.{side, maxWidth, maxHeight, maxColumns, maxLines, maxBlocks, maxPixels, allowed, pixels, columns, lines, blocks, blocksIn, sameSize, fault}
 use Rattle.spec.specs.Maps.{settled}
 use Rattle.spec.specs.Boards.{Board, Exact, exact}
 
@@ -125,3 +125,25 @@ no-fault-lengths z a b p q e =
 pub fault-allowed : (z : Size) (t : Bool) → allowed z ≡ true → fault z t ≡ if t ok badLength
 unfolding fault if
 fault-allowed z t a = rw a
+
+-- two sizes that the test finds the same are one
+pub same-size : (y z : Size) → sameSize y z ≡ true → y ≡ z
+same-size y z t =
+    let both = and-eq-true-iff (eqb (y .width) (z .width)) (eqb (y .height) (z .height)) .0 t in
+    let w = eqb-true (y .width) (z .width) (both .0) in
+    let h = eqb-true (y .height) (z .height) (both .1) in
+    λ i. record { width = w i; height = h i }
+
+-- where something is not right, 1 or 2 is given
+pub fault-somehow : (z : Size) → fault z false ≢ ok
+fault-somehow z e = true≢false (sym (no-fault-both z false e .1))
+
+pub size-itself : (z : Size) → sameSize z z ≡ true
+size-itself z = rw (eq-eqb (z .width) (z .width) refl, eq-eqb (z .height) (z .height) refl)
+
+-- where a feed's own size was looked at, and compared with the board's
+pub no-fault-sizes : (y z : Size) (t : Bool) → fault y (sameSize y z && t) ≡ ok → (allowed z ≡ true) × (y ≡ z)
+no-fault-sizes y z t e =
+    let f = no-fault-both y (sameSize y z && t) e in
+    let same = same-size y z (and-eq-true-iff (sameSize y z) t .0 (f .1) .0) in
+    (ap allowed (sym same) ∙ f .0, same)

@@ -2,6 +2,7 @@
 use Prim.Native.Nat.{ℕ, _+_}
 use mathlib.Core.Path.{_≡_, sym, ap, _∙_}
 use mathlib.Core.List.{List, [], _++_, append-assoc, append-nil}
+use mathlib.Core.Bool.{true}
 use native.Mathlib.Nat.{le-refl}
 use lib.ListN.{length}
 use Rattle.spec.specs.declared.Size.{Size}
@@ -9,31 +10,43 @@ use Rattle.spec.specs.declared.Next.{Next}
 use Rattle.spec.specs.declared.Next.the-variants as Next
 use Rattle.spec.specs.declared.Step.{Step}
 use Rattle.spec.specs.declared.Step.the-variants as Step
-use Rattle.spec.specs.Boards.{Board, read}
+use Rattle.spec.specs.Sizes.{allowed}
+use Rattle.spec.specs.Boards.{Board, Faithful, read}
 use Rattle.spec.specs.Feeds.{between, nextAt, Chunks, andOnward, chunksFrom, stepBy, walkStep}
-use Rattle.spec.specs.Listing.{endLine, stepLine, chunkLines, linesFrom}
+use Rattle.spec.specs.Listing.{chunkLine, endLine, chunkLines, linesFrom, stepLine}
 use Rattle.spec.proofs.Feeds.{unroll-chunks}
+use Rattle.spec.proofs.Boards.{faithful-read}
 
 -- the lines after a step that has left a board
 abbrev pub linesAfter : Size → List ℕ → ℕ → Step → Board → List ℕ
 linesAfter z s i (Step.End a) after = []
-linesAfter z s i (Step.Chunk a past) after = linesFrom z s (i + 1) past after
+linesAfter z s i (Step.Chunk r past) after = linesFrom z s (i + 1) past after
 
-lines-by : (z : Size) (s : List ℕ) (i at : ℕ) (b : Board) (x : Next)
-    → let cs = andOnward (λ p. chunksFrom (length s) s p) s at x in
-    let l = stepBy z s x b in
-    chunkLines z i (cs .list) b ++ endLine (cs .ending) ≡ stepLine z i (l .said) (l .board .map) ++ linesAfter z s i (l .said) (l .board)
-unfolding chunkLines stepLine
-lines-by z s i at b (Next.End a) = sym (append-nil (endLine a))
-lines-by z s i at b (Next.Chunk first past) =
-    let l = read z (between s first past) b in
-    let rest = chunksFrom (length s) s past in
-    append-assoc (stepLine z i (Step.Chunk (l .said) past) (l .board .map)) (chunkLines z (i + 1) (rest .list) (l .board)) (endLine (rest .ending))
+-- what one step prints of the lines from a place on, over a board whose record is true; and that it is true again, for the next step
+pub record Listed (z : Size) (s : List ℕ) (i : ℕ) (text : List ℕ) (step : Step) (after : Board) : Type 0 where
+  pub lines : text ≡ stepLine i step ++ linesAfter z s i step after
+  pub faithful : Faithful z after
 
-pub lines-step : (z : Size) (s : List ℕ) (i at : ℕ) (b : Board)
-    → let l = walkStep z s at b in
-    linesFrom z s i at b ≡ stepLine z i (l .said) (l .board .map) ++ linesAfter z s i (l .said) (l .board)
-unfolding walkStep
-lines-step z s i at b =
-    ap (λ (cs : Chunks). chunkLines z i (cs .list) b ++ endLine (cs .ending)) (unroll-chunks s (length s) (le-refl (length s)) at)
-    ∙ lines-by z s i at b (nextAt s at)
+module _ (z : Size) (fine : allowed z ≡ true) (s : List ℕ) (i at : ℕ) (b : Board) (f : Faithful z b) where
+  lines-by : (x : Next)
+      → let cs = andOnward (λ p. chunksFrom (length s) s p) s at x in
+      Listed z s i (chunkLines z i (cs .list) b ++ endLine (cs .ending)) (stepBy z s x b .said) (stepBy z s x b .board)
+  unfolding chunkLines stepLine
+  lines-by (Next.End a) = record { lines = sym (append-nil (endLine a)); faithful = f }
+  lines-by (Next.Chunk first past) =
+      let l = read z (between s first past) b in
+      let true-after = faithful-read z fine (between s first past) b f in
+      let rest = chunksFrom (length s) s past in
+      let more = chunkLines z (i + 1) (rest .list) (l .board) in
+      record {
+        lines = append-assoc (chunkLine i (l .said) _) more (endLine (rest .ending))
+            ∙ ap (λ (n : ℕ). chunkLine i (l .said) n ++ (more ++ endLine (rest .ending))) (sym (true-after .kept));
+        faithful = true-after;
+      }
+
+  pub lines-step : Listed z s i (linesFrom z s i at b) (walkStep z s at b .said) (walkStep z s at b .board)
+  unfolding walkStep
+  lines-step =
+      let e = ap (λ (cs : Chunks). chunkLines z i (cs .list) b ++ endLine (cs .ending)) (unroll-chunks s (length s) (le-refl (length s)) at) in
+      let by = lines-by (nextAt s at) in
+      record { lines = e ∙ by .lines; faithful = by .faithful }

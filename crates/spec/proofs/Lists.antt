@@ -19,6 +19,13 @@ unfolding if
 by-test P true f g = f refl
 by-test P false f g = g refl
 
+-- one or none, by a test, either way round
+pub one-or-none : (b : Bool) → if b 1 0 ≤ 1
+one-or-none b = by-test (λ (n : ℕ). n ≤ 1) b (λ t. omega arith) (λ t. omega arith)
+
+pub none-or-one : (b : Bool) → if b 0 1 ≤ 1
+none-or-one b = by-test (λ (n : ℕ). n ≤ 1) b (λ t. omega arith) (λ t. omega arith)
+
 -- a choice of what a function makes is what it makes of a choice
 pub if-along {ℓ κ} : {A : Type ℓ} {B : Type κ} (f : A → B) (b : Bool) {x y : A} {u v : B} → u ≡ f x → v ≡ f y → if b u v ≡ f (if b x y)
 unfolding if

@@ -10,7 +10,7 @@ ok = 0
 abbrev pub badSize : ℕ
 badSize = 1
 
--- a lent picture or map is not of the exact length
+-- a lent picture or map is not of the exact length, or a feed's size is not the record's
 abbrev pub badLength : ℕ
 badLength = 2
 
@@ -85,6 +85,10 @@ badSegment = 19
 -- the end marker does not follow the rows
 abbrev pub noEndMarker : ℕ
 noEndMarker = 20
+
+-- the new count would fall below 0 or above the number of blocks
+abbrev pub badCount : ℕ
+badCount = 21
 
 -- a number, a place, and the block at which it stopped
 abbrev pub answerAt : ℕ → ℕ → ℕ → Answer

@@ -13,7 +13,7 @@ use Rattle.spec.specs.Pictures.{given, held}
 use Rattle.spec.specs.Maps.{settled, fresh, unsettled}
 use Rattle.spec.specs.Feeds.{Reply, reply}
 use Rattle.spec.specs.Calls.{reading, walking, walkingRun}
-use Rattle.spec.specs.Rows.{Row, octet, sequence, lastGiven, readLengths, runLengths, writeLengths, maps, writes, encodes, varint, noVarint, places, prints, size, of, holds, hold}
+use Rattle.spec.specs.Rows.{Row, octet, sequence, lent, lastGiven, readLengths, runLengths, writeLengths, maps, writes, encodes, varint, noVarint, places, prints, size, of, holds, hold}
 
 -- a chunk read over a starting picture and a fresh map
 abbrev pub reads : ℕ → ℕ → List ℕ → List ℕ → ℕ → ℕ → ℕ → List ℕ → List ℕ → Row
@@ -25,7 +25,7 @@ refuses w h s n p k = reads w h (of (w * h) 9) s n p k (of (w * h) 9) (fresh (bl
 
 -- what read, write, fresh map and count answer where every lent buffer is empty: an allowed size gets 2
 abbrev pub sizes : ℕ → ℕ → ℕ → List Row
-sizes w h e = readLengths w h 0 0 e ∷ writeLengths w h 0 0 e ∷ maps w h [] e [] 0 ∷ []
+sizes w h e = readLengths w h 0 0 e ∷ writeLengths w h 0 0 e ∷ maps w h [] e [] 0 0 ∷ []
 
 -- four pixels of each colour
 abbrev pub across : List ℕ → List ℕ
@@ -39,6 +39,18 @@ line cs = let row = across cs in row ++ row ++ row ++ row
 -- a chunk of at most 255 bytes around its opcodes
 abbrev pub chunk : List ℕ → List ℕ
 chunk body = 0xE1 ∷ 0x00 ∷ 0x00 ∷ (4 + length body) ∷ body
+
+-- opcodes of a chunk, on one line of blocks that all show 5, with a map and a record's count: accepted, and the map and the count afterwards
+abbrev pub counts : List ℕ → ℕ → List ℕ → List ℕ → ℕ → Row
+counts m n s after k =
+    let pic = of (16 * length m) 5 in
+    lent (4 * length m) 4 pic m n (reading (chunk s) ∷ []) (reply [] (answerAt 0 (4 + length s) (length m)) ∷ []) pic after k
+
+-- refused, over such a line of nines: picture, map and count stay
+abbrev pub unmoved : List ℕ → ℕ → List ℕ → ℕ → ℕ → ℕ → Row
+unmoved m n s e p k =
+    let pic = of (16 * length m) 9 in
+    lent (4 * length m) 4 pic m n (reading (chunk s) ∷ []) (reply [] (answerAt e p k) ∷ []) pic m n
 
 -- opcodes that store n pairs and paint a block each: those of j, j + 1, .., where the pair of j is j's two digits, lower first
 abbrev pub pairs : ℕ → ℕ → List ℕ
@@ -167,9 +179,9 @@ further =
     ∷ writeLengths 8 4 32 32 14
     ∷ writeLengths 8 4 31 32 2
     ∷ writeLengths 8 4 32 33 2
-    -- a fresh map, and a count, over any numbers; refused
-    ∷ maps 8 4 (7 ∷ settled ∷ []) 0 (0 ∷ 1 ∷ []) 1
-    ∷ maps 8 4 (7 ∷ settled ∷ 7 ∷ []) 2 (7 ∷ settled ∷ 7 ∷ []) 0
+    -- a fresh map with its record, and a count, over any numbers; refused
+    ∷ maps 8 4 (7 ∷ settled ∷ []) 0 (0 ∷ 1 ∷ []) 2 1
+    ∷ maps 8 4 (7 ∷ settled ∷ 7 ∷ []) 2 (7 ∷ settled ∷ 7 ∷ []) 0 0
     -- a pair table stored 257 times: entry 0 holds the last pair, and entry 1 the second
     ∷ lastGiven 258 (0xE1 ∷ 0x00 ∷ 0x05 ∷ 0x0D ∷ pairs 0 257 ++ 0x90 ∷ 0x00 ∷ 0xFF ∷ 0xFF ∷ []) (of 16 1)
     ∷ lastGiven 258 (0xE1 ∷ 0x00 ∷ 0x05 ∷ 0x0D ∷ pairs 0 257 ++ 0x90 ∷ 0x01 ∷ 0x00 ∷ 0x00 ∷ []) (of 16 1)
@@ -180,6 +192,41 @@ further =
     (reply [] (answerAt 0 7 2) ∷ reply [] (answerAt 0 6 2) ∷ []) (line (1 ∷ 1 ∷ [])) (0 ∷ 0 ∷ []) 2
     -- a skip in front of a copy: the block before, and not the last painted one
     ∷ reads 12 4 (line (1 ∷ 2 ∷ 3 ∷ [])) (chunk (0x60 ∷ 0x05 ∷ 0x00 ∷ 0x20 ∷ [])) 0 8 3 (line (5 ∷ 2 ∷ 2 ∷ [])) (settled ∷ 1 ∷ 1 ∷ [])
+    -- the kept count: a settled block is unsettled by a copy, and counted; by a copy right after a skip, one block back and two; through a copy
+    -- of it, all the way; a copy of a settled block settles
+    ∷ counts (0 ∷ settled ∷ []) 1 (0x00 ∷ 0x20 ∷ []) (0 ∷ 0 ∷ []) 2
+    ∷ counts (settled ∷ 1 ∷ settled ∷ []) 1 (0x60 ∷ 0x05 ∷ 0x00 ∷ 0x20 ∷ []) (settled ∷ 1 ∷ 1 ∷ []) 2
+    ∷ counts (settled ∷ 1 ∷ settled ∷ settled ∷ []) 1 (0x01 ∷ 0x40 ∷ []) (settled ∷ 1 ∷ settled ∷ 1 ∷ []) 2
+    ∷ counts (7 ∷ settled ∷ settled ∷ settled ∷ []) 1 (0x00 ∷ 0x22 ∷ []) (of 4 7) 4
+    ∷ counts (7 ∷ settled ∷ 5 ∷ 6 ∷ []) 3 (0x01 ∷ 0x40 ∷ []) (7 ∷ settled ∷ 7 ∷ settled ∷ []) 2
+    -- a count that is untrue to its map: moved all the same, as long as the new one is from 0 to the number of blocks; up to either end
+    ∷ counts (of 2 settled) 1 (0x01 ∷ []) (of 2 settled) 1
+    ∷ counts (0 ∷ 1 ∷ 7 ∷ []) 2 (0x61 ∷ 0x05 ∷ 0x00 ∷ []) (settled ∷ settled ∷ 7 ∷ []) 0
+    ∷ counts (of 2 settled) 2 (0x01 ∷ []) (of 2 settled) 2
+    ∷ counts (0 ∷ 1 ∷ []) 4 (0x61 ∷ 0x05 ∷ []) (of 2 settled) 2
+    -- what is newly unsettled is added before what is newly settled is taken away
+    ∷ counts (7 ∷ 8 ∷ settled ∷ settled ∷ []) 0 (0x00 ∷ 0x60 ∷ 0x05 ∷ 0x40 ∷ []) (7 ∷ settled ∷ 7 ∷ settled ∷ []) 0
+    -- 21: below 0; above the number of blocks, by a block unsettled, or where the chunk changes nothing, up to the greatest number of 64 bits
+    ∷ unmoved (0 ∷ 1 ∷ []) 1 (0x61 ∷ 0x05 ∷ []) 21 0 0
+    ∷ unmoved (0 ∷ settled ∷ []) 0 (0x61 ∷ 0x05 ∷ []) 21 0 0
+    ∷ unmoved (0 ∷ settled ∷ []) 2 (0x00 ∷ 0x20 ∷ []) 21 0 0
+    ∷ unmoved (0 ∷ 1 ∷ []) 5 (0x61 ∷ 0x05 ∷ []) 21 0 0
+    ∷ unmoved (of 2 settled) 3 (0x01 ∷ []) 21 0 0
+    ∷ unmoved (0 ∷ settled ∷ []) 18446744073709551615 (0x00 ∷ 0x20 ∷ []) 21 0 0
+    -- it is looked for last: a chunk's own refusals come before it
+    ∷ unmoved (of 2 settled) 3 (0x02 ∷ []) 9 4 0
+    ∷ unmoved (of 2 settled) 3 (0x01 ∷ 0xAA ∷ []) 11 5 2
+    -- inside a run it is that chunk's answer: the run goes on over what was there, and does not count it as accepted
+    ∷ lent 8 4 (of 32 9) (0 ∷ settled ∷ []) 0
+    (walkingRun (0x06 ∷ chunk (0x61 ∷ 0x05 ∷ []) ++ 0x06 ∷ chunk (0x00 ∷ 0x20 ∷ []) ++ 0x06 ∷ chunk (0x61 ∷ 0x05 ∷ [])) ∷ [])
+    (says (answerAt 21 0 0 ∷ answerAt 0 6 2 ∷ answerAt 21 0 0 ∷ []) 1 (answerAt 0 21 2) ∷ []) (of 32 9) (0 ∷ 0 ∷ []) 1
+    -- a feed's size is the record's, or gets 2, also where the lengths are those of its size, and where the record's own is not allowed; 1 comes first
+    ∷ lent 8 4 (of 32 9) (0 ∷ 1 ∷ []) 2 (walking (0x01 ∷ 0x02 ∷ 0x06 ∷ chunk (0x61 ∷ 0x05 ∷ [])) ∷ []) (reply [] (answerAt 2 0 0) ∷ []) (of 32 9) (0 ∷ 1 ∷ []) 2
+    ∷ lent 8 8 (of 32 9) (0 ∷ 1 ∷ []) 2 (walking (0x02 ∷ 0x01 ∷ 0x00 ∷ []) ∷ []) (reply [] (answerAt 2 0 0) ∷ []) (of 32 9) (0 ∷ 1 ∷ []) 2
+    ∷ lent 4 8 (of 32 9) (0 ∷ 1 ∷ []) 2 (walking (0x01 ∷ 0x02 ∷ 0x06 ∷ chunk (0x61 ∷ 0x05 ∷ [])) ∷ [])
+    (reply (answerAt 0 6 2 ∷ []) (answerAt 0 9 2) ∷ []) (of 32 5) (of 2 settled) 0
+    ∷ lent 6 4 (of 32 9) (0 ∷ 1 ∷ []) 2 (walking (0x02 ∷ 0x01 ∷ []) ∷ walking (0x51 ∷ 0x01 ∷ []) ∷ reading [] ∷ walkingRun [] ∷ [])
+    (reply [] (answerAt 2 0 0) ∷ reply [] (answerAt 1 0 0) ∷ reply [] (answerAt 1 0 0) ∷ reply [] (answerAt 1 0 0) ∷ []) (of 32 9) (0 ∷ 1 ∷ []) 2
     -- numbers: the greatest, one above it, a fourth group with its top bit, and one that the bytes cut short
     ∷ varint (0xFF ∷ 0xFF ∷ 0xFF ∷ 0x07 ∷ []) 16777215 4
     ∷ noVarint (0x80 ∷ 0x80 ∷ 0x80 ∷ 0x08 ∷ []) 12

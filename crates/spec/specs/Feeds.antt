@@ -17,8 +17,9 @@ use Rattle.spec.specs.declared.Step.{Step}
 use Rattle.spec.specs.declared.Step.the-variants as Step
 use Rattle.spec.specs.Basics.{if, fuelled, part}
 use Rattle.spec.specs.Answers.{ok, badVarint, feedCut, answerAt, answer, checked}
-use Rattle.spec.specs.Sizes.{blocksIn, sizeOf, fault}
-use Rattle.spec.specs.Boards.{Board, Left, left, exact, read, inTurn}
+use Rattle.spec.specs.Sizes.{blocksIn, sameSize, sizeOf, fault}
+use Rattle.spec.specs.Maps.{recordOf}
+use Rattle.spec.specs.Boards.{Board, Left, left, recorded, exact, read, inTurn}
 
 -- a number is not "above 16,777,215"
 abbrev pub maxNumber : ℕ
@@ -132,16 +133,20 @@ readAll z cs b =
     let ran = inTurn (read z) (map (λ c. c .bytes) (cs .list)) b in
     left (reply (ran .said) (ended z (cs .ending))) (ran .board)
 
--- "Size is checked after both numbers are read, then the lent buffers (2, which also ends the walk)"
+-- behind 1 and 2: "Size is checked after both numbers are read, then the lent buffers (2, which also ends the walk)"
+abbrev pub walkBehind : ℕ → Size → Chunks → Board → Left Reply
+walkBehind e z cs b = checked e (λ a. left (reply [] a) b) (readAll z cs b)
+
 abbrev pub walkChunks : Size → Chunks → Board → Left Reply
-walkChunks z cs b = checked (fault z (exact z b)) (λ a. left (reply [] a) b) (readAll z cs b)
+walkChunks z cs b = walkBehind (fault z (exact z b)) z cs b
 
-abbrev pub walkFeed : Feed → Board → Left Reply
-walkFeed (broken a) b = left (reply [] a) b
-walkFeed (sized z cs) b = walkChunks z cs b
+-- on a board whose record has size z: "2 where a feed's size isn't the record's", after 1 for the feed's own
+abbrev pub walkFeed : Size → Feed → Board → Left Reply
+walkFeed z (broken a) b = left (reply [] a) b
+walkFeed z (sized y cs) b = walkBehind (fault y (sameSize y z && exact y b)) z cs b
 
-unfoldable pub walk : List ℕ → Board → Left Reply
-walk s b = walkFeed (feedOf s) b
+unfoldable pub walk : Size → List ℕ → Board → Left Reply
+walk z s b = walkFeed z (feedOf s) b
 
 -- "a run lent without size numbers": lengths and chunks as they stand behind the size numbers of a feed, with places from its own first byte
 abbrev pub chunksOf : List ℕ → Chunks
@@ -150,16 +155,17 @@ chunksOf s = chunksFrom (length s) s 0
 unfoldable pub walkRun : Size → List ℕ → Board → Left Reply
 walkRun z s b = walkChunks z (chunksOf s) b
 
--- what it answers with: the walk's own answer, and the number accepted, which is 0 on 1 and 2, where no chunk is read
-abbrev pub tally : Reply → Tally
-tally r = record { answer = r .answer; accepted = r .accepted }
+-- what it hands back: the walk's own answer, the number accepted, which is 0 on 1 and 2, where no chunk is read, and the record as it is then
+abbrev pub tally : Size → Left Reply → Tally
+tally z l = record { answer = l .said .answer; accepted = l .said .accepted; kept = recordOf z (l .board .kept) }
 
--- One step of it, from a place on: the chunk that stands there is read, and the place after it; or nothing is left to read
+-- One step of it, from a place on: the chunk that stands there is read, with the record as it is then and the place after it; or nothing is
+-- left to read
 abbrev pub stepBy : Size → List ℕ → Next → Board → Left Step
 stepBy z s (Next.End a) b = left (Step.End (ended z a)) b
 stepBy z s (Next.Chunk first past) b =
     let l = read z (between s first past) b in
-    left (Step.Chunk (l .said) past) (l .board)
+    left (Step.Chunk (recorded z l) past) (l .board)
 
 unfoldable pub walkStep : Size → List ℕ → ℕ → Board → Left Step
 walkStep z s at b = stepBy z s (nextAt s at) b

@@ -16,7 +16,7 @@ use Rattle.spec.specs.declared.Decision.the-variants as Decision
 use Rattle.spec.specs.Basics.{if, from}
 use Rattle.spec.specs.Answers.{badSize, answer}
 use Rattle.spec.specs.Sizes.{allowed, pixels, blocks}
-use Rattle.spec.specs.Maps.{fresh, countMap}
+use Rattle.spec.specs.Maps.{fresh, unsettled}
 use Rattle.spec.specs.Boards.{Board, board, read}
 use Rattle.spec.specs.Feeds.{Placed, chunksFrom, sizeNumbers}
 
@@ -72,26 +72,20 @@ tooLargeLine = ascii "too large\n"
 abbrev pub chunkLine : ℕ → Answer → ℕ → List ℕ
 chunkLine i a n = decimal i (spaced (a .number ∷ a .place ∷ n ∷ a .block ∷ []))
 
--- the line of one step of the walk, which has left a map: of the chunk that it has read, with the count as it now stands (`countMap`, which
--- is "how many entries are not 65,535" where the map is a board's), or the end line
-unfoldable pub stepLine : Size → ℕ → Step → List ℕ → List ℕ
-stepLine z i (Step.End a) m = endLine a
-stepLine z i (Step.Chunk a past) m = chunkLine i a (countMap z m .unsettled)
-
--- the lines of chunks, each read over what the one before it left; i is the first one's number
+-- the lines of chunks, each read over what the one before it left, with the count as it then stands; i is the first one's number
 unfoldable pub chunkLines : Size → ℕ → List Placed → Board → List ℕ
 chunkLines z i [] b = []
 chunkLines z i (c ∷ cs) b =
     let l = read z (c .bytes) b in
-    stepLine z i (Step.Chunk (l .said) (c .past)) (l .board .map) ++ chunkLines z (i + 1) cs (l .board)
+    chunkLine i (l .said) (unsettled (l .board .map)) ++ chunkLines z (i + 1) cs (l .board)
 
 -- those from a place on, and the end line
 abbrev pub linesFrom : Size → List ℕ → ℕ → ℕ → Board → List ℕ
 linesFrom z s i at b = let cs = chunksFrom (length s) s at in chunkLines z i (cs .list) b ++ endLine (cs .ending)
 
--- "from an all-zero picture and a fresh map"
+-- "from an all-zero picture and a fresh map", with its record
 abbrev pub startingBoard : Size → Board
-startingBoard z = board (replicate (pixels z) 0) (fresh (blocks z))
+startingBoard z = board (replicate (pixels z) 0) (fresh (blocks z)) (blocks z)
 
 abbrev pub listingBy : List ℕ → Decision → List ℕ
 listingBy s Decision.TooLarge = tooLargeLine
@@ -100,3 +94,9 @@ listingBy s (Decision.Board z first) = boardLine z ++ linesFrom z s 1 first (sta
 
 unfoldable pub listing : List ℕ → List ℕ
 listing s = listingBy s (decide s)
+
+-- The line of one step of the walk: of the chunk that it has read, with the record's count, or the end line. Where the record is true to its map
+-- these are the lines of the listing, one by one (`lines-step` of proofs/Listing)
+unfoldable pub stepLine : ℕ → Step → List ℕ
+stepLine i (Step.End a) = endLine a
+stepLine i (Step.Chunk r past) = chunkLine i (r .answer) (r .kept .unsettled)

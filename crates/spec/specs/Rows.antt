@@ -11,11 +11,11 @@ use Rattle.spec.specs.declared.Varint.{Varint}
 use Rattle.spec.specs.declared.Varint.the-variants.{Bad, Value}
 use Rattle.spec.specs.Basics.{if, fuelled, sameBy, same}
 use Rattle.spec.specs.Answers.{answerAt, answer, checked}
-use Rattle.spec.specs.Sizes.{blocks}
+use Rattle.spec.specs.Sizes.{blocks, sameSize}
 use Rattle.spec.specs.Sizes as Sizes
 use Rattle.spec.specs.Pictures.{Origin, given, held}
 use Rattle.spec.specs.Pictures as Pictures
-use Rattle.spec.specs.Maps.{fresh, unsettled, remap, freshMap, countMap}
+use Rattle.spec.specs.Maps.{fresh, unsettled, remap, recount, miscounts, freshMap, countMap}
 use Rattle.spec.specs.Flags.{upper24, lower24}
 use Rattle.spec.specs.Flags as Flags
 use Rattle.spec.specs.Chunks.{Outcome, refused, accepted, decode}
@@ -33,8 +33,10 @@ use Rattle.spec.specs.Listing as Listing
 pub data Row : Type 0 where
   -- six flag bytes: the two 24-bit numbers
   octet : List ℕ → ℕ → ℕ → Row
-  -- size, a starting picture with a fresh map, calls: what each says, the picture, the map and the count at the end
+  -- size, a starting picture with a fresh map and its record, calls: what each says, the picture, the map, and the count, kept and counted, at the end
   sequence : ℕ → ℕ → List ℕ → List Call → List Reply → List ℕ → List ℕ → ℕ → Row
+  -- the same over any map and any count, which may be untrue to it; the count at the end is the record's
+  lent : ℕ → ℕ → List ℕ → List ℕ → ℕ → List Call → List Reply → List ℕ → List ℕ → ℕ → Row
   -- blocks, a chunk that is accepted: the pixels that it gives the last of them
   lastGiven : ℕ → List ℕ → List ℕ → Row
   -- size, the lengths of the lent picture and map: what reading an empty chunk answers
@@ -43,8 +45,8 @@ pub data Row : Type 0 where
   runLengths : ℕ → ℕ → ℕ → ℕ → Reply → Row
   -- size, the lengths of the old and the new picture: what writing to an empty output answers
   writeLengths : ℕ → ℕ → ℕ → ℕ → ℕ → Row
-  -- size, a map: what fresh map and count answer, the map that is left, and the count
-  maps : ℕ → ℕ → List ℕ → ℕ → List ℕ → ℕ → Row
+  -- size, a map: what fresh map and count answer, the map that is left, the fresh record's count, and the count of the map that was lent
+  maps : ℕ → ℕ → List ℕ → ℕ → List ℕ → ℕ → ℕ → Row
   -- size, old picture, new picture: the chunk; written where it just fits, with a byte behind it, and with one byte too few
   writes : ℕ → ℕ → List ℕ → List ℕ → List ℕ → Row
   -- origins: the opcodes of the writer's chunk
@@ -71,8 +73,7 @@ abbrev pub sameReply : Reply → Reply → Bool
 sameReply x y = sameBy sameAnswer (x .inside) (y .inside) && eqb (x .accepted) (y .accepted) && sameAnswer (x .answer) (y .answer)
 
 abbrev pub isLeft : Left (List Reply) → List Reply → List ℕ → List ℕ → ℕ → Bool
-isLeft l replies pic m n =
-    sameBy sameReply (l .said) replies && same (l .board .picture) pic && same (l .board .map) m && eqb (unsettled (l .board .map)) n
+isLeft l replies pic m n = sameBy sameReply (l .said) replies && same (l .board .picture) pic && same (l .board .map) m && eqb (l .board .kept) n
 
 abbrev pub isGiven : Origin → List ℕ → Bool
 isGiven (given px) qx = same px qx
@@ -99,23 +100,26 @@ placesOf (c ∷ cs) = c .numberAt ∷ c .first ∷ c .past ∷ placesOf cs
 
 unfoldable pub holds : Row → Bool
 unfolding if fuelled checked Sizes.side Sizes.blocksIn Sizes.fault Pictures.place Pictures.blockOf Pictures.pixelOf Pictures.shown Pictures.paint
-    remap freshMap countMap Flags.digits Flags.upper24 Flags.lower24 Flags.flags Flags.octetBytes Flags.flagBytes
+    remap recount miscounts freshMap countMap Flags.digits Flags.upper24 Flags.lower24 Flags.flags Flags.octetBytes Flags.flagBytes
     Chunks.put Chunks.missing Chunks.body Chunks.countAt Chunks.bodyAt Chunks.opcode Chunks.blocksBy Chunks.extend Chunks.stored Chunks.step Chunks.padding Chunks.finish Chunks.loop Chunks.decode
     read inTurn Writing.insert Writing.colours Writing.entries Writing.entryOf Writing.tabled Writing.single Writing.counting Writing.plain
     Writing.opcodeFor Writing.alike Writing.opcodes Writing.encode Writing.difference Writing.differences Writing.emit Writing.write
     Feeds.groups Feeds.varintAt Feeds.nextAt Feeds.chunksFrom Feeds.sizeNumbers Feeds.feedOf Feeds.walk Feeds.walkRun call
-    Listing.decide Listing.higherDigits Listing.decimal Listing.stepLine Listing.chunkLines Listing.listing
+    Listing.decide Listing.higherDigits Listing.decimal Listing.chunkLines Listing.listing
 holds (octet bs x y) = eqb (upper24 bs) x && eqb (lower24 bs) y
 holds (sequence w h start calls replies pic m n) =
-    isLeft (run (size w h) calls (board start (fresh (blocks (size w h))))) replies pic m n
+    let n₀ = blocks (size w h) in
+    isLeft (run (size w h) calls (board start (fresh n₀) n₀)) replies pic m n && eqb (unsettled m) n
+holds (lent w h start m₀ n₀ calls replies pic m n) = isLeft (run (size w h) calls (board start m₀ n₀)) replies pic m n
 holds (lastGiven n s px) = lastIs (decode n s) n px
-holds (readLengths w h pixels entries e) = sameAnswer (read (size w h) [] (board (of pixels 0) (of entries 0)) .said) (answer e 0)
-holds (runLengths w h pixels entries r) = sameReply (walkRun (size w h) (0 ∷ []) (board (of pixels 0) (of entries 0)) .said) r
+holds (readLengths w h pixels entries e) = sameAnswer (read (size w h) [] (board (of pixels 0) (of entries 0) entries) .said) (answer e 0)
+holds (runLengths w h pixels entries r) = sameReply (walkRun (size w h) (0 ∷ []) (board (of pixels 0) (of entries 0) entries) .said) r
 holds (writeLengths w h old new e) = isWrote (write (size w h) (of old 0) (of new 0) []) (answer e 0) []
-holds (maps w h m e after n) =
+holds (maps w h m e after k n) =
     let z = size w h in
     let a = answer e 0 in
-    sameAnswer (freshMap z m .answer) a && same (freshMap z m .map) after
+    let fresh = freshMap z m in
+    sameAnswer (fresh .answer) a && same (fresh .map) after && sameSize (fresh .kept .size) z && eqb (fresh .kept .unsettled) k
     && sameAnswer (countMap z m .answer) a && eqb (countMap z m .unsettled) n
 holds (writes w h old new s) =
     let z = size w h in

@@ -51,10 +51,14 @@ maxBlocks = maxColumns * maxLines
 abbrev pub maxPixels : ℕ
 maxPixels = maxWidth * maxHeight
 
+-- whether two sizes are one
+abbrev pub sameSize : Size → Size → Bool
+sameSize y z = eqb (y .width) (z .width) && eqb (y .height) (z .height)
+
 -- the size of so many blocks to a line and so many lines of them
 abbrev pub sizeOf : ℕ → ℕ → Size
 sizeOf c r = record { width = 4 * c; height = 4 * r }
 
--- 1, then 2 where the lent buffers are not of the exact lengths; 0 where neither is given
+-- 1, then 2 where what is lent is not right, the buffers of the exact lengths and a feed's size the record's; 0 where neither is given
 unfoldable pub fault : Size → Bool → ℕ
 fault z exact = if (allowed z) (if exact ok badLength) badSize

@@ -14,7 +14,7 @@ impl Answer {
     pub const OK: u8 = 0;
     // width or height not allowed
     pub const BAD_SIZE: u8 = 1;
-    // a lent picture or map is not of the exact length
+    // a lent picture or map is not of the exact length, or a feed's size is not the record's
     pub const BAD_LENGTH: u8 = 2;
     // chunk under 4 bytes
     pub const CHUNK_SHORT: u8 = 3;
@@ -52,6 +52,8 @@ impl Answer {
     pub const BAD_SEGMENT: u8 = 19;
     // the end marker does not follow the rows
     pub const NO_END_MARKER: u8 = 20;
+    // the new count would fall below 0 or above the number of blocks
+    pub const BAD_COUNT: u8 = 21;
 }
 
 // A picture's width and height in pixels.
@@ -76,6 +78,21 @@ impl Size {
     pub const MAX_PIXELS: usize = Size::MAX_WIDTH * Size::MAX_HEIGHT;
 }
 
+// A board's record, kept beside its picture and map: the size, and how many of the map's entries are unsettled. It is lent and handed back by
+// value; a caller may lend one that is untrue to its map.
+#[repr(C)]
+pub struct Record {
+    pub size: Size,
+    pub unsettled: usize,
+}
+
+// What a fresh start, reading a chunk and walking a feed answer: the answer, and the record as it is then.
+#[repr(C)]
+pub struct Recorded {
+    pub answer: Answer,
+    pub kept: Record,
+}
+
 // The map's entry of a settled block.
 pub const SETTLED: u16 = 65535;
 
@@ -89,11 +106,12 @@ pub struct Count {
     pub unsettled: usize,
 }
 
-// What a walk of a run of chunks answers: the walk's own answer, and how many of the chunks were accepted.
+// What a walk of a run of chunks answers: the walk's own answer, how many of the chunks were accepted, and the record as it is then.
 #[repr(C)]
 pub struct Tally {
     pub answer: Answer,
     pub accepted: usize,
+    pub kept: Record,
 }
 
 // A house number, a varint, as it is read at a place.
@@ -127,9 +145,9 @@ pub enum Next {
 
 // One step of a walk.
 pub enum Step {
-    // the chunk's answer, and the place to go on from
-    Chunk(Answer, usize),
-    // the walk's own answer
+    // the chunk's answer with the record as it is then, and the place to go on from
+    Chunk(Recorded, usize),
+    // the walk's own answer; the record is as it was lent
     End(Answer),
 }
 

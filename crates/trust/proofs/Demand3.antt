@@ -10,21 +10,21 @@ use lib.Dec.{eqb}
 use lib.ListN.{length, getD, replicate, length-replicate}
 use borrow.Author.Tests.{eq-eqb}
 use Rattle.spec.specs.declared.Size.{Size}
-use Rattle.spec.specs.Basics.{Every}
 use Rattle.spec.specs.Answers.{ok, answer}
 use Rattle.spec.specs.Sizes.{allowed, pixels, columns, lines, blocks}
 use Rattle.spec.specs.Pictures.{Origin, given, held, Below, shown, blockAt}
-use Rattle.spec.specs.Maps.{settled, entry, remap, fresh, unsettled, mapLeft, mapFault, freshMap, countMap}
-use Rattle.spec.specs.Boards.{Board, board, left, Exact}
+use Rattle.spec.specs.Maps.{settled, entry, remap, fresh, unsettled, recordOf, Fresh, mapLeft, mapFault, freshMap, countMap}
+use Rattle.spec.specs.Boards.{Board, board, left, Faithful}
 use Rattle.spec.specs.Calls.{Call, call, run}
 use Rattle.spec.proofs.Lists.{every-replicate, length-from}
 use Rattle.spec.proofs.Limits.{allowed-size, area, blocks-below-mark, fault-none}
 use Rattle.spec.proofs.Maps.{fresh-made, count-made}
 use Rattle.spec.proofs.Blocks.{painted, shown-plain}
 use Rattle.spec.proofs.Origins.{remap-at, below-at, entry-held}
-use Rattle.spec.proofs.Boards.{inTurn-append}
+use Rattle.spec.proofs.Records.{fresh-true}
+use Rattle.spec.proofs.Boards.{inTurn-append, kept-paint}
 use Rattle.trust.specs.Means.{Means}
-use Rattle.trust.specs.Demand.{IsStart, CallFor, ran, shows, entryAt, Alike, Demand3}
+use Rattle.trust.specs.Demand.{IsStart, StartsFresh, startFresh, ran, shows, entryAt, Alike, Demand3, KeptTrue}
 use Rattle.trust.proofs.Meanings.{run-means}
 
 -- a sequence in two parts: the second goes on where the first ended, and the answers are appended
@@ -39,16 +39,22 @@ module _ (z : Size) (a : allowed z ≡ true) (m : List ℕ) (e : length m ≡ bl
   no-map-fault : mapFault z m ≡ ok
   no-map-fault = fault-none z (eqb (length m) (blocks z)) a (eq-eqb (length m) (blocks z) e)
 
-  pub starts-fresh : freshMap z m ≡ mapLeft (answer ok 0) (fresh (blocks z))
-  starts-fresh = fresh-made z m no-map-fault ∙ ap (λ (n : ℕ). mapLeft (answer ok 0) (fresh n)) e
+  fresh-start : freshMap z m ≡ mapLeft (answer ok 0) (fresh (blocks z)) (recordOf z (blocks z))
+  fresh-start = fresh-made z m no-map-fault ∙ ap (λ (n : ℕ). mapLeft (answer ok 0) (fresh n) (recordOf z n)) e
 
   pub counts-unsettled : countMap z m ≡ record { answer = answer ok 0; unsettled = unsettled m }
   counts-unsettled = count-made z m no-map-fault
 
+-- map and record together
+pub starts-fresh : StartsFresh
+starts-fresh z fine m e =
+    let start = fresh-start z fine m e in
+    record { fine = fine; map = ap (λ l. l .map) start; kept = ap (λ l. l .kept) start }
+
 module _ (z : Size) (fine : allowed z ≡ true) where
   -- a block's origin decides both its entry, from a fresh map, and what it shows
   plainBoard : ℕ → Board
-  plainBoard x = board (replicate (pixels z) x) (fresh (blocks z))
+  plainBoard x = board (replicate (pixels z) x) (fresh (blocks z)) (blocks z)
 
   plain : (x : ℕ) → x < 256 → IsStart z (plainBoard x)
   unfolding plainBoard
@@ -75,9 +81,9 @@ module _ (z : Size) (fine : allowed z ≡ true) where
   name (given px) u ne = absurd (ne refl)
   name (held j) u ne = let e = entry-held (blocks z) j u in rw e (u, (λ s. refl))
 
-  module _ (calls : List Call) (us : Every (CallFor z) calls) where
+  module _ (calls : List Call) where
     means : Means z (run z calls)
-    means = run-means z fine calls us
+    means = run-means z fine calls
 
     -- the origin of block k over the whole sequence
     origin : ℕ → Origin
@@ -89,14 +95,21 @@ module _ (z : Size) (fine : allowed z ≡ true) where
 
     module _ (p : Board) (i : IsStart z p) where
       started : Board
-      started = board (p .picture) (freshMap z (p .map) .map)
+      started = startFresh z p
+
+      begun : Fresh z (freshMap z (p .map) .map) (freshMap z (p .map) .kept)
+      begun = starts-fresh z fine (p .map) (i .exact .map)
 
       map-fresh : freshMap z (p .map) .map ≡ fresh (blocks z)
-      map-fresh = ap (λ l. l .map) (starts-fresh z fine (p .map) (i .exact .map))
+      map-fresh = begun .map
 
-      lent : Exact z started
+      lent : Faithful z started
       unfolding started
-      lent = record { picture = i .exact .picture; map = ap length map-fresh ∙ length-from 0 (blocks z) }
+      lent =
+          record {
+            exact = record { picture = i .exact .picture; map = ap length map-fresh ∙ length-from 0 (blocks z) };
+            kept = ap (λ r. r .unsettled) (begun .kept) ∙ sym (ap unsettled map-fresh ∙ fresh-true (blocks z) (blocks-below-mark z fine));
+          }
 
       ran-said : ran z calls p .said ≡ means .said
       unfolding started
@@ -105,6 +118,14 @@ module _ (z : Size) (fine : allowed z ≡ true) where
       ran-map : ran z calls p .board .map ≡ remap (means .origins) (fresh (blocks z))
       unfolding started
       ran-map = ap (λ (b : Board). b .map) (means .leaves started lent) ∙ ap (remap (means .origins)) map-fresh
+
+      -- the kept count is true
+      pub ran-kept : ran z calls p .board .kept ≡ unsettled (ran z calls p .board .map)
+      unfolding started
+      ran-kept =
+          ap (λ (b : Board). b .kept) (means .leaves started lent)
+          ∙ kept-paint z (means .origins) started (means .covers) lent
+          ∙ ap (λ (b : Board). unsettled (b .map)) (sym (means .leaves started lent))
 
       ran-entry : (k : ℕ) → k < blocks z → entryAt z calls p k ≡ entry (fresh (blocks z)) (origin k)
       unfolding origin
@@ -122,6 +143,7 @@ module _ (z : Size) (fine : allowed z ≡ true) where
         record {
           answers = ran-said p ip ∙ sym (ran-said q iq);
           maps = maps;
+          records = ran-kept p ip ∙ ap unsettled maps ∙ sym (ran-kept q iq);
           counts = ap (countMap z) maps;
           settles = λ k h.
               let iff = settle (origin k) (below k) in (
@@ -134,4 +156,7 @@ module _ (z : Size) (fine : allowed z ≡ true) where
         }
 
 pub demand3 : Demand3
-demand3 z fine calls us p q ip iq = alike z fine calls us p q ip iq
+demand3 z fine calls p q ip iq = alike z fine calls p q ip iq
+
+pub kept-true : KeptTrue
+kept-true z fine calls p i = ran-kept z fine calls p i

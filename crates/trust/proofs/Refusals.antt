@@ -3,38 +3,34 @@ use Prim.Native.Nat.{ℕ}
 use mathlib.Core.Path.{_≡_, refl}
 use mathlib.Core.Logic.{_≢_}
 use mathlib.Core.List.{List, []}
+use mathlib.Core.Bool.{_&&_}
 use lib.ListN.{length}
 use Rattle.spec.specs.declared.Answer.{Answer}
 use Rattle.spec.specs.declared.Size.{Size}
 use Rattle.spec.specs.declared.SizeNumbers.{SizeNumbers}
 use Rattle.spec.specs.declared.SizeNumbers.the-variants.{Broken, Sized}
 use Rattle.spec.specs.Answers.{ok, badVarint, feedCut, answer}
-use Rattle.spec.specs.Sizes.{blocks, fault}
-use Rattle.spec.specs.Maps.{MapLeft, mapFault, freshMap, fresh}
+use Rattle.spec.specs.Sizes.{blocks, sameSize, fault}
+use Rattle.spec.specs.Maps.{MapLeft, mapFault, freshMap}
 use Rattle.spec.specs.Chunks.{Outcome, refused, accepted, decode, verdict}
-use Rattle.spec.specs.Boards.{Board, Left, left, exact, effect, read}
+use Rattle.spec.specs.Boards.{Board, Left, left, exact, effect, recounted, read}
 use Rattle.spec.specs.Writing.{Wrote, emit, write}
-use Rattle.spec.specs.Feeds.{chunksFrom, sizeNumbers, broken, withChunks, feedOf, Reply, reply, walkChunks, walkFeed, walk, walkRun}
-use Rattle.spec.specs.Calls.{Call, reading, walking, walkingRun, call}
+use Rattle.spec.specs.Feeds.{chunksFrom, sizeNumbers, broken, withChunks, feedOf, Reply, reply, walkBehind, walkFeed, walk, walkRun}
 use Rattle.spec.proofs.Lists.{by-test, by-checked}
 use Rattle.spec.proofs.Varints.{badly, short}
 use Rattle.spec.proofs.Feeds.{Ends, whole, cut, ends-chunks}
+use Rattle.trust.specs.Refusals.{Unchanged, Refusals}
 
--- a refused chunk leaves picture and map
-pub refused-read : (z : Size) (s : List ℕ) (b : Board) → read z s b .said .number ≢ ok → read z s b .board ≡ b
+-- a refused chunk leaves picture, map and record
+refused-read : (z : Size) (s : List ℕ) (b : Board) → read z s b .said .number ≢ ok → read z s b .board ≡ b
 unfolding read
 refused-read z s b =
-    by-checked (λ (l : Left Answer). l .said .number ≢ ok → l .board ≡ b) (fault z (exact z b)) (λ a n. refl) (by (decode (blocks z) s))
+    by-checked (λ (l : Left Answer). l .said .number ≢ ok → l .board ≡ b) (fault z (exact z b)) (λ a n. refl)
+    (by (recounted (blocks z) b (decode (blocks z) s)))
   where
     by : (o : Outcome) → verdict s o .number ≢ ok → effect z o b ≡ b
     by (refused a) n = refl
     by (accepted os) n = absurd (n refl)
-
--- what was said is refused, with none of the numbers that may leave something made
-abbrev Kept : Board → Left Reply → Type 0
-Kept b l =
-    let n = l .said .answer .number in
-    n ≢ ok → n ≢ badVarint → n ≢ feedCut → l .board ≡ b
 
 kept-ending : (n : ℕ) (x b : Board) → Ends n → n ≢ ok → n ≢ badVarint → n ≢ feedCut → x ≡ b
 kept-ending n x b whole p q r = absurd (p refl)
@@ -42,46 +38,48 @@ kept-ending n x b (cut badly) p q r = absurd (q refl)
 kept-ending n x b (cut short) p q r = absurd (r refl)
 
 -- the chunks of s from a place on
-refused-chunks : (z : Size) (s : List ℕ) (first : ℕ) (b : Board) → Kept b (walkChunks z (chunksFrom (length s) s first) b)
-refused-chunks z s first b =
-    by-checked (Kept b) _ (λ a p q r. refl) (kept-ending (chunksFrom (length s) s first .ending .number) _ b (ends-chunks (length s) s first))
+refused-chunks : (e : ℕ) (z : Size) (s : List ℕ) (first : ℕ) (b : Board) → Unchanged b (walkBehind e z (chunksFrom (length s) s first) b)
+refused-chunks e z s first b =
+    by-checked (Unchanged b) e (λ a p q r. refl) (kept-ending (chunksFrom (length s) s first .ending .number) _ b (ends-chunks (length s) s first))
 
-refused-walk : (s : List ℕ) (b : Board) → Kept b (walk s b)
+refused-walk : (z : Size) (s : List ℕ) (b : Board) → Unchanged b (walk z s b)
 unfolding walk feedOf
-refused-walk s b = by (sizeNumbers s)
+refused-walk z s b = by (sizeNumbers s)
   where
-    by : (x : SizeNumbers) → Kept b (walkFeed (withChunks s x) b)
+    by : (x : SizeNumbers) → Unchanged b (walkFeed z (withChunks s x) b)
     by (Broken a) = λ p q r. refl
-    by (Sized z first) = refused-chunks z s first b
+    by (Sized y first) = refused-chunks (fault y (sameSize y z && exact y b)) z s first b
 
-refused-run : (z : Size) (s : List ℕ) (b : Board) → Kept b (walkRun z s b)
+refused-run : (z : Size) (s : List ℕ) (b : Board) → Unchanged b (walkRun z s b)
 unfolding walkRun
-refused-run z s b = refused-chunks z s 0 b
-
--- a refused call changes nothing: 1, 2 and a chunk's own refusals. A walk that ends in 12 or 13 keeps what its chunks made
-pub refused-call : (z : Size) (a : Call) (b : Board)
-    → let n = call z a b .said .answer .number in
-    n ≢ ok → n ≢ badVarint → n ≢ feedCut → call z a b .board ≡ b
-unfolding call
-refused-call z (reading s) b = λ p q r. refused-read z s b p
-refused-call z (walking s) b = refused-walk s b
-refused-call z (walkingRun s) b = refused-run z s b
+refused-run z s b = refused-chunks (fault z (exact z b)) z s 0 b
 
 -- size numbers that fail, with 12 or 13, leave the board too
-pub refused-size : (s : List ℕ) (a : Answer) (b : Board) → feedOf s ≡ broken a → walk s b ≡ left (reply [] a) b
+refused-size : (z : Size) (s : List ℕ) (a : Answer) (b : Board) → feedOf s ≡ broken a → walk z s b ≡ left (reply [] a) b
 unfolding walk
-refused-size s a b e = rw e
+refused-size z s a b e = rw e
 
 -- a refused fresh map leaves the map, and a refused write the output
-pub refused-fresh : (z : Size) (m : List ℕ) → freshMap z m .answer .number ≢ ok → freshMap z m .map ≡ m
+refused-fresh : (z : Size) (m : List ℕ) → freshMap z m .answer .number ≢ ok → freshMap z m .map ≡ m
 unfolding freshMap
 refused-fresh z m =
     by-checked (λ (l : MapLeft). l .answer .number ≢ ok → l .map ≡ m) (mapFault z m) (λ a n. refl) (λ n. absurd (n refl))
 
-pub refused-write : (z : Size) (old new out : List ℕ) → write z old new out .answer .number ≢ ok → write z old new out .output ≡ out
+refused-write : (z : Size) (old new out : List ℕ) → write z old new out .answer .number ≢ ok → write z old new out .output ≡ out
 unfolding write emit
 refused-write z old new out =
     by-checked Keeps _ (λ a n. refl) (by-test Keeps _ (λ t n. refl) (λ t n. absurd (n refl)))
   where
     Keeps : Wrote → Type 0
     Keeps w = w .answer .number ≢ ok → w .output ≡ out
+
+pub refusals : Refusals
+refusals =
+    record {
+      reading = refused-read;
+      walking = refused-walk;
+      running = refused-run;
+      unsized = refused-size;
+      starting = refused-fresh;
+      writing = refused-write;
+    }

@@ -11,7 +11,7 @@ use Rattle.spec.specs.Basics.{if, from, same, part}
 use Rattle.spec.specs.Answers.{ok, answerAt}
 use Rattle.spec.specs.Sizes.{allowed, pixels, columns, lines, blocks}
 use Rattle.spec.specs.Pictures.{Origin, given, held, shown, blockAt, paint}
-use Rattle.spec.specs.Maps.{entry, remap}
+use Rattle.spec.specs.Maps.{entry, remap, unsettled}
 use Rattle.spec.specs.Flags.{number, digits}
 use Rattle.spec.specs.Chunks.{State, start, accepted, resume, loop, decode, verdict}
 use Rattle.spec.specs.Boards.{board, left, effect, read}
@@ -20,13 +20,14 @@ use Rattle.spec.proofs.Lists.{by-test, if-apply, length-from, getD-rule, map-co
 use Rattle.spec.proofs.Parts.{part-of}
 use Rattle.spec.proofs.Limits.{allowed-size, area}
 use Rattle.spec.proofs.Blocks.{shown-at, shown-same, length-paint, painted, equal-by-blocks}
-use Rattle.spec.proofs.Boards.{read-exact}
+use Rattle.spec.proofs.Records.{recount-true}
+use Rattle.spec.proofs.Boards.{read-faithful}
 use Rattle.spec.proofs.Loops.{unroll, loop-accepts}
 use Rattle.spec.proofs.Padding.{padding-none}
 use Rattle.spec.proofs.Digits.{length-digits}
 use Rattle.spec.proofs.Numbers.{number-digits}
 use Rattle.spec.proofs.Written.{alike-room, alike-alone, writable-first, writable-rest, opcode-some, length-encode, encode-most, length-differences, differences-writable}
-use Rattle.trust.specs.RoundTrip.{marked, ReadsBack}
+use Rattle.trust.specs.RoundTrip.{marked, WrittenReadsBack}
 use Rattle.trust.proofs.Turns.{moved, Alone, run-turn}
 
 -- a block that goes on with a run has the run's origin, at its own place
@@ -127,8 +128,7 @@ remap-differences z old new m =
     map-map (entry m) _ (from 0 (blocks z))
     ∙ map-congr (every-all (from 0 (blocks z)) (λ k. if-apply (entry m) (same (blockAt c old k) (blockAt c new k)) (held k) (given (blockAt c new k))))
 
-pub reads-back : (z : Size) → allowed z ≡ true → (old new m : List ℕ) → length old ≡ pixels z → length new ≡ pixels z → length m ≡ blocks z
-    → ReadsBack z old new m
+pub reads-back : WrittenReadsBack
 reads-back z fine old new m eo en em =
     let os = differences z old new in
     let few = allowed-size z fine .few in
@@ -137,9 +137,10 @@ reads-back z fine old new m eo en em =
     let decoded : decode (blocks z) (encode os) ≡ accepted os = rw n at (decode-encode os w (rw n (omega arith))) in
     let pic = paints-new z fine old new en in
     let map = remap-differences z old new m in
+    let count = recount-true os m (n ∙ sym em) ∙ ap unsettled map in
     record {
-      reads = read-exact z fine (encode os) (board old m) (record { picture = eo; map = em })
-          ∙ ap (λ o. left (verdict (encode os) o) (effect z o (board old m))) decoded
-          ∙ (λ i. left (answerAt ok (length (encode os)) (n i)) (board (pic i) (map i)));
+      reads = read-faithful z fine (encode os) (board old m (unsettled m)) (record { exact = record { picture = eo; map = em }; kept = refl })
+          ∙ ap (λ o. left (verdict (encode os) o) (effect z o (board old m (unsettled m)))) decoded
+          ∙ (λ i. left (answerAt ok (length (encode os)) (n i)) (board (pic i) (map i) (count i)));
       short = rw n at (encode-most os w);
     }

@@ -3,7 +3,7 @@ use Prim.Native.Nat.{ℕ, _+_, _≤_}
 use mathlib.Core.Path.{_≡_, refl, sym, ap, _∙_}
 use mathlib.Core.Logic.{_≢_}
 use mathlib.Core.List.{List, [], _∷_, map, map-map}
-use mathlib.Core.Bool.{Bool}
+use mathlib.Core.Bool.{Bool, false, _&&_}
 use native.Mathlib.Nat.{zero-add}
 use native.Mathlib.Omega.{arith}
 use lib.Dec.{eqb}
@@ -15,15 +15,15 @@ use Rattle.spec.specs.declared.SizeNumbers.{SizeNumbers}
 use Rattle.spec.specs.declared.SizeNumbers.the-variants.{Broken, Sized}
 use Rattle.spec.specs.Basics.{if, Every, none, also}
 use Rattle.spec.specs.Answers.{ok, answerAt, answer}
-use Rattle.spec.specs.Sizes.{fault}
+use Rattle.spec.specs.Sizes.{sameSize, fault}
 use Rattle.spec.specs.Boards.{Board, Left, left, exact, read, inTurn}
-use Rattle.spec.specs.Feeds.{sizeNumbers, withChunks, feedOf, Chunks, chunksFrom, numberAccepted, Reply, reply, ended, readAll, walkChunks, walkFeed, walk, chunksOf, walkRun}
+use Rattle.spec.specs.Feeds.{sizeNumbers, withChunks, feedOf, Chunks, chunksFrom, numberAccepted, Reply, reply, ended, readAll, walkBehind, walkChunks, walkFeed, walk, chunksOf, walkRun}
 use Rattle.spec.proofs.Lists.{by-number, checked-along, checked-refused}
-use Rattle.spec.proofs.Limits.{by-fault}
+use Rattle.spec.proofs.Limits.{by-fault, fault-somehow, size-itself}
 use Rattle.spec.proofs.Varints.{badly, short, cut-refused, numbered}
 use Rattle.spec.proofs.Feeds.{Ends, whole, cut, ends-chunks}
 use Rattle.spec.proofs.Runs.{laterChunks, chunks-behind, AtEnd, used-up}
-use Rattle.trust.specs.Runs.{singly, Singly, HandedSingly, behind, afterNumbers, SizeThenRun, UsedUp}
+use Rattle.trust.specs.Runs.{Singly, HandedSingly, behind, afterNumbers, SizeThenRun, OtherSize, UsedUp}
 
 -- where size or lengths are not right, each reading is refused with the same answer, and the board stays
 module _ (z : Size) (b : Board) (wrong : fault z (exact z b) ≢ ok) where
@@ -95,7 +95,8 @@ size-then-run s z p e b =
     let run = drop p s in
     let own = ended z (chunksOf run .ending) in
     let ran = readAll z (chunksOf run) b in
-    ap (λ x. walkFeed (withChunks s x) b) e
+    ap (λ x. walkFeed z (withChunks s x) b) e
+    ∙ ap (λ t. walkBehind (fault z (t && exact z b)) z (chunksFrom (length s) s p) b) (size-itself z)
     ∙ ap (λ cs. walkChunks z cs b) (chunks-behind s p (numbered s e))
     ∙ checked-along (afterNumbers p) (fault z (exact z b)) _ _
     (λ wrong. ap (λ a. left (reply [] a) b) (sym (behind-fault p z (exact z b) wrong)))
@@ -103,14 +104,18 @@ size-then-run s z p e b =
     reads-later z p (chunksOf run) b
     ∙ ap (λ a. left (reply (ran .said .inside) a) (ran .board)) (sym (behind-ending p (own .number) (own .place) (own .block) (ends-chunks (length run) run 0))))
 
-chunks-used : (z : Size) (s : List ℕ) (at : ℕ) (b : Board) → at ≤ length s → AtEnd s (walkChunks z (chunksFrom (length s) s at) b .said .answer)
-chunks-used z s at b within =
-    by-number (λ (l : Left Reply). AtEnd s (l .said .answer)) (fault z (exact z b)) _ (λ wrong h. absurd (wrong h)) (λ fine. used-up s at within)
+pub other-size : OtherSize
+unfolding walk feedOf
+other-size s y z p e d b = rw (e, d) (checked-refused (fault y false) _ _ (fault-somehow y))
+
+chunks-used : (e : ℕ) (z : Size) (s : List ℕ) (at : ℕ) (b : Board) → at ≤ length s → AtEnd s (walkBehind e z (chunksFrom (length s) s at) b .said .answer)
+chunks-used e z s at b within =
+    by-number (λ (l : Left Reply). AtEnd s (l .said .answer)) e _ (λ wrong h. absurd (wrong h)) (λ fine. used-up s at within)
 
 pub used-all : UsedUp
 unfolding walk walkRun feedOf
-used-all z s b = record { run = chunks-used z s 0 b (omega arith); feed = by (sizeNumbers s) refl }
+used-all z s b = record { run = chunks-used (fault z (exact z b)) z s 0 b (omega arith); feed = by (sizeNumbers s) refl }
   where
-    by : (x : SizeNumbers) → sizeNumbers s ≡ x → AtEnd s (walkFeed (withChunks s x) b .said .answer)
+    by : (x : SizeNumbers) → sizeNumbers s ≡ x → AtEnd s (walkFeed z (withChunks s x) b .said .answer)
     by (Broken a) e = λ h. absurd (cut-refused (numbered s e .0) h)
-    by (Sized y p) e = chunks-used y s p b (numbered s e)
+    by (Sized y p) e = chunks-used (fault y (sameSize y z && exact y b)) z s p b (numbered s e)

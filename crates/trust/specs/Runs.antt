@@ -1,17 +1,18 @@
--- A run of chunks does what its chunks do handed over singly, the walk of a feed is its size numbers followed by a run, and an answer of 0
--- says that all was used. Assumes nothing.
+-- A run of chunks does what its chunks do handed over singly, the walk of a feed is its size numbers followed by a run, or 1 or 2 where these are not
+-- the record's size, and an answer of 0 says that all was used. Assumes nothing.
 use Prim.Native.Nat.{ℕ, _+_}
 use mathlib.Core.Path.{_≡_}
 use mathlib.Core.Logic.{_≢_}
-use mathlib.Core.List.{List, map}
+use mathlib.Core.List.{List, [], map}
+use mathlib.Core.Bool.{false}
 use lib.Dec.{eqb}
 use lib.ListN.{length, drop}
 use Rattle.spec.specs.declared.Answer.{Answer}
 use Rattle.spec.specs.declared.Size.{Size}
 use Rattle.spec.specs.declared.SizeNumbers.the-variants.{Sized}
 use Rattle.spec.specs.Basics.{if, Every}
-use Rattle.spec.specs.Answers.{ok, badSize, badLength, answerAt}
-use Rattle.spec.specs.Sizes.{fault}
+use Rattle.spec.specs.Answers.{ok, badSize, badLength, answerAt, answer}
+use Rattle.spec.specs.Sizes.{sameSize, fault}
 use Rattle.spec.specs.Boards.{Board, Left, left, exact, read, inTurn}
 use Rattle.spec.specs.Feeds.{sizeNumbers, numberAccepted, Reply, reply, ended, chunksOf, walk, walkRun}
 
@@ -21,7 +22,7 @@ singly z s b = inTurn (read z) (map (λ c. c .bytes) (chunksOf s .list)) b
 
 -- for every run, size and board: refused chunks in the middle, an end in 12 or 13, and a board that gets 1 or 2 included
 pub record Singly (z : Size) (s : List ℕ) (b : Board) : Type 0 where
-  -- the same picture and map
+  -- the same picture, map and record
   pub boards : walkRun z s b .board ≡ singly z s b .board
   -- the number accepted is how many of the readings answer 0
   pub accepted : walkRun z s b .said .accepted ≡ numberAccepted (singly z s b .said)
@@ -45,12 +46,18 @@ abbrev pub afterNumbers : ℕ → Left Reply → Left Reply
 afterNumbers p l = left (reply (l .said .inside) (behind p (l .said .answer))) (l .board)
 
 abbrev pub SizeThenRun : Type 0
-SizeThenRun = (s : List ℕ) (z : Size) (p : ℕ) → sizeNumbers s ≡ Sized z p → (b : Board) → walk s b ≡ afterNumbers p (walkRun z (drop p s) b)
+SizeThenRun = (s : List ℕ) (z : Size) (p : ℕ) → sizeNumbers s ≡ Sized z p → (b : Board) → walk z s b ≡ afterNumbers p (walkRun z (drop p s) b)
+
+-- where the size numbers are not the record's size: 1 if that size is not allowed, else 2, nothing read, all as it was
+abbrev pub OtherSize : Type 0
+OtherSize =
+    (s : List ℕ) (y z : Size) (p : ℕ) → sizeNumbers s ≡ Sized y p → sameSize y z ≡ false
+    → (b : Board) → walk z s b ≡ left (reply [] (answer (fault y false) 0)) b
 
 -- where a walk answers 0, all of its bytes are used: the place is the length of the run, or of the feed
 pub record AllUsed (z : Size) (s : List ℕ) (b : Board) : Type 0 where
   pub run : walkRun z s b .said .answer .number ≡ ok → walkRun z s b .said .answer .place ≡ length s
-  pub feed : walk s b .said .answer .number ≡ ok → walk s b .said .answer .place ≡ length s
+  pub feed : walk z s b .said .answer .number ≡ ok → walk z s b .said .answer .place ≡ length s
 
 abbrev pub UsedUp : Type 0
 UsedUp = (z : Size) (s : List ℕ) (b : Board) → AllUsed z s b

@@ -203,11 +203,8 @@ pub fn check_chunk(codec: &Codec, example: &Example) -> Result<(), String> {
     } = example;
     let chunk = &chunk_of(opcodes);
     let lent = lent_board(*size);
-    let settled = Board {
-        size: *size,
-        picture: lent.picture.iter().map(|pixel| !pixel).collect(),
-        map: vec![SETTLED; size.blocks()],
-    };
+    let inverse = lent.picture.iter().map(|pixel| !pixel).collect();
+    let settled = Board::with_true_record(*size, inverse, vec![SETTLED; size.blocks()]);
     check_read(codec, [&lent; 2], chunk, *says)?;
     check_read(codec, [&settled; 2], chunk, *says)
 }
@@ -215,11 +212,7 @@ pub fn check_chunk(codec: &Codec, example: &Example) -> Result<(), String> {
 /// Lengths that do not fit, whatever the chunk: it would be accepted, or stop at block 1.
 fn check_lengths(codec: &Codec) -> Result<(), String> {
     for (pixels, entries) in [(31, 2), (33, 2), (32, 1), (32, 3), (0, 0)] {
-        let board = Board {
-            size: size(8, 4),
-            picture: lent_picture(pixels),
-            map: fresh(entries),
-        };
+        let board = Board::with_true_record(size(8, 4), lent_picture(pixels), fresh(entries));
         check_read(codec, [&board; 2], &[0xE1, 0, 0, 5, 0x01], (2, 0, 0))?;
         check_read(codec, [&board; 2], &[0xE1, 0, 0, 5, 0x00], (2, 0, 0))?;
     }

@@ -4,26 +4,26 @@
 use std::fmt::{Debug, Display};
 use std::hint::black_box;
 
-use seatboard::exact::{self, Answer, Count, Tally};
-use seatboard::Size;
+use seatboard::exact::{self, Answer, Count, Recorded, Tally};
+use seatboard::{Record, Size};
 use second::reader::{self, pixel_blocks, At, Reading, Refusal};
 use second::sprite::{self, Frame};
-use second::walk::{self, ChunkRead, Walk};
+use second::walk::{self, Walk};
 use second::writer::{self, Chunk};
 
 use crate::feeds::{self, FeedCase};
-use crate::generate::{Board, Case, SETTLED};
+use crate::generate::{unsettled, Board, Case, SETTLED};
 use crate::pictures::WriteCase;
 use crate::runs::RunCase;
 use crate::symbols::{Placed, SymbolCase};
 
 /// One of the two that are compared.
 pub struct Codec {
-    pub fresh_map: fn(Size, &mut [u16]) -> Answer,
+    pub fresh_map: fn(Size, &mut [u16]) -> Recorded,
     pub count: fn(Size, &mut [u16]) -> Count,
-    pub read_chunk: fn(Size, &[u8], &mut [u8], &mut [u16]) -> Answer,
-    pub walk_feed: fn(&[u8], &mut [u8], &mut [u16]) -> Answer,
-    pub walk_run: fn(Size, &[u8], &mut [u8], &mut [u16]) -> Tally,
+    pub read_chunk: fn(Record, &[u8], &mut [u8], &mut [u16]) -> Recorded,
+    pub walk_feed: fn(Record, &[u8], &mut [u8], &mut [u16]) -> Recorded,
+    pub walk_run: fn(Record, &[u8], &mut [u8], &mut [u16]) -> Tally,
     /// Old picture, new picture, output: the pictures too, so that a change of them is found.
     pub write_chunk: fn(Size, &mut [u8], &mut [u8], &mut [u8]) -> Answer,
     /// Picture, file: the file too, so that a change of it is found.
@@ -61,8 +61,13 @@ fn perhaps_changed<T>(lent: &mut [T]) {
 
 pub const SECOND: Codec = Codec {
     fresh_map: |size, map| {
-        let made = reader::fresh_map(size.width, size.height, map);
-        answer(&made, At::NOWHERE)
+        let made = reader::fresh_map((size.width, size.height), map);
+        // 01 has a refused count be 0.
+        let refused = Record { size, unsettled: 0 };
+        Recorded {
+            answer: answer(&made, At::NOWHERE),
+            record: made.map_or(refused, ours),
+        }
     },
     count: |size, map| {
         let counted = reader::count(size.width, size.height, map);
@@ -71,19 +76,9 @@ pub const SECOND: Codec = Codec {
             unsettled: counted.unwrap_or(0),
         }
     },
-    read_chunk: |size, chunk, picture, map| {
-        let reading = reader::read_chunk((size.width, size.height), chunk, picture, map);
-        answer(&reading, At::end(chunk.len(), map))
-    },
-    walk_feed: |feed, picture, map| walk_answer(&walk::walk(feed, picture, map)),
-    walk_run: |size, run, picture, map| {
-        run_tally(&walk::walk_run(
-            (size.width, size.height),
-            run,
-            picture,
-            map,
-        ))
-    },
+    read_chunk: |record, chunk, picture, map| second_reading(record, chunk, picture, map).0,
+    walk_feed: |record, feed, picture, map| second_walk(record, feed, picture, map).0,
+    walk_run: |record, run, picture, map| second_run(record, run, picture, map).0,
     write_chunk: |size, old, new, output| {
         let written = writer::write_chunk((size.width, size.height), old, new, output);
         write_answer(&written)
@@ -92,6 +87,68 @@ pub const SECOND: Codec = Codec {
         symbol_answer(&second_painting(size, picture, file, placed))
     },
 };
+
+/// The second reader's record as ours.
+fn ours(theirs: reader::Record) -> Record {
+    let (width, height) = theirs.size;
+    Record {
+        size: Size { width, height },
+        unsettled: theirs.unsettled,
+    }
+}
+
+fn theirs(ours: Record) -> reader::Record {
+    reader::Record {
+        size: (ours.size.width, ours.size.height),
+        unsettled: ours.unsettled,
+    }
+}
+
+fn second_reading(
+    record: Record,
+    chunk: &[u8],
+    picture: &mut [u8],
+    map: &mut [u16],
+) -> (Recorded, Result<Reading, Refusal>) {
+    let mut kept = theirs(record);
+    let reading = reader::read_chunk(&mut kept, chunk, picture, map);
+    let said = Recorded {
+        answer: answer(&reading, At::end(chunk.len(), map)),
+        record: ours(kept),
+    };
+    (said, reading)
+}
+
+fn second_walk(
+    record: Record,
+    feed: &[u8],
+    picture: &mut [u8],
+    map: &mut [u16],
+) -> (Recorded, Walk) {
+    let mut kept = theirs(record);
+    let walk = walk::walk(&mut kept, feed, picture, map);
+    let said = Recorded {
+        answer: walk_answer(&walk),
+        record: ours(kept),
+    };
+    (said, walk)
+}
+
+pub fn second_run(
+    record: Record,
+    run: &[u8],
+    picture: &mut [u8],
+    map: &mut [u16],
+) -> (Tally, Walk) {
+    let mut kept = theirs(record);
+    let walk = walk::walk_run(&mut kept, run, picture, map);
+    let tally = Tally {
+        answer: walk_answer(&walk),
+        accepted: walk.accepted(),
+        record: ours(kept),
+    };
+    (tally, walk)
+}
 
 fn answer<T>(reading: &Result<T, Refusal>, accepted: At) -> Answer {
     answered(reader::number_and_at(reading, accepted))
@@ -106,13 +163,6 @@ fn answered((number, At { place, block }): (u8, At)) -> Answer {
         number,
         place,
         block,
-    }
-}
-
-fn run_tally(walk: &Walk) -> Tally {
-    Tally {
-        answer: walk_answer(walk),
-        accepted: walk.accepted(),
     }
 }
 
@@ -283,26 +333,24 @@ const NAMES: [&str; 2] = ["ours", "second reader's"];
 pub struct Comparison {
     pub differences: Vec<String>,
     pub answer: Answer,
-    /// Empty of a refused chunk.
-    pub reading: Reading,
+    pub reading: Result<Reading, Refusal>,
 }
 
 pub fn read_chunk(Case { board, chunk }: &Case) -> Comparison {
-    let size = board.size;
+    let record = board.record();
     let ours = Outcome::of(board, |picture, map| {
-        (LIBRARY.read_chunk)(size, chunk, picture, map)
+        (LIBRARY.read_chunk)(record, chunk, picture, map)
     });
-    let mut reading = Reading::default();
+    let mut read = None;
     let theirs = Outcome::of(board, |picture, map| {
-        let read = reader::read_chunk((size.width, size.height), chunk, picture, map);
-        let answer = answer(&read, At::end(chunk.len(), map));
-        reading = read.unwrap_or_default();
-        answer
+        let (said, reading) = second_reading(record, chunk, picture, map);
+        read = Some(reading);
+        said
     });
     Comparison {
         differences: ours.differences(&theirs, NAMES),
-        answer: theirs.answer,
-        reading,
+        answer: theirs.answer.answer,
+        reading: read.expect("the second reader was called"),
     }
 }
 
@@ -315,16 +363,16 @@ pub struct FeedComparison {
 }
 
 pub fn walk_feed(FeedCase { board, feed }: &FeedCase) -> FeedComparison {
+    let record = board.record();
     let ours = Outcome::of(board, |picture, map| {
-        (LIBRARY.walk_feed)(feed, picture, map)
+        (LIBRARY.walk_feed)(record, feed, picture, map)
     });
     let mut walked = None;
     let theirs = Outcome::of(board, |picture, map| {
-        let walk = walk::walk(feed, picture, map);
+        let (said, walk) = second_walk(record, feed, picture, map);
         let changed = *picture != board.picture[..] || *map != board.map[..];
-        let answer = walk_answer(&walk);
         walked = Some((walk, changed));
-        answer
+        said
     });
     let (walk, changed) = walked.expect("the second walk was called");
     FeedComparison {
@@ -343,14 +391,15 @@ pub struct RunComparison {
 
 pub fn walk_run(case: &RunCase) -> RunComparison {
     let RunCase { board, run } = case;
-    let Size { width, height } = board.size;
+    let record = board.record();
     let ours = Outcome::of(board, |picture, map| {
-        (LIBRARY.walk_run)(board.size, run, picture, map)
+        (LIBRARY.walk_run)(record, run, picture, map)
     });
     let mut walked = None;
     let theirs = Outcome::of(board, |picture, map| {
-        let walk = walk::walk_run((width, height), run, picture, map);
-        run_tally(walked.insert(walk))
+        let (tally, walk) = second_run(record, run, picture, map);
+        walked = Some(walk);
+        tally
     });
     let walk = walked.expect("the second walk was called");
     let mut differences = ours.differences(&theirs, ["ours", "second walk's"]);
@@ -363,17 +412,21 @@ pub fn walk_run(case: &RunCase) -> RunComparison {
 }
 
 /// The same by single readings (02): all chunks before the end that the second walk found, each read
-/// by ours.
+/// by ours with the record that the one before it handed back.
 fn singly(RunCase { board, run }: &RunCase, walk: &Walk) -> Outcome<Tally> {
     Outcome::of(board, |picture, map| {
-        let read = |chunk: &&ChunkRead| {
-            let chunk = &run[chunk.first..][..chunk.length];
-            (LIBRARY.read_chunk)(board.size, chunk, picture, map).number == 0
-        };
-        Tally {
+        let mut tally = Tally {
             answer: walk_answer(walk),
-            accepted: walk.chunks.iter().filter(read).count(),
+            accepted: 0,
+            record: board.record(),
+        };
+        for chunk in &walk.chunks {
+            let chunk = &run[chunk.first..][..chunk.length];
+            let read = (LIBRARY.read_chunk)(tally.record, chunk, picture, map);
+            tally.record = read.record;
+            tally.accepted += usize::from(read.answer.number == 0);
         }
+        tally
     })
 }
 
@@ -382,11 +435,16 @@ fn singly(RunCase { board, run }: &RunCase, walk: &Walk) -> Outcome<Tally> {
 fn behind(numbers: &[u8], RunCase { board, run }: &RunCase, accepted: usize) -> Outcome<Tally> {
     let feed = [numbers, run].concat();
     Outcome::of(board, |picture, map| {
-        let mut answer = (LIBRARY.walk_feed)(&feed, picture, map);
+        let Recorded { mut answer, record } =
+            (LIBRARY.walk_feed)(board.record(), &feed, picture, map);
         if !matches!(answer.number, 1 | 2) {
             answer.place = answer.place.wrapping_sub(numbers.len());
         }
-        Tally { answer, accepted }
+        Tally {
+            answer,
+            accepted,
+            record,
+        }
     })
 }
 
@@ -420,8 +478,8 @@ pub fn write_chunk(case: &WriteCase) -> WriteComparison {
     }
 }
 
-/// Both readers over the old picture: they make the new one of it and settle exactly the changed
-/// blocks.
+/// Both readers over the old picture, with a true record: they make the new one of it and settle
+/// exactly the changed blocks.
 fn read_back(case: &WriteCase, chunk: &[u8]) -> Vec<String> {
     let size = case.board.size;
     let [old, new] = [&case.board.picture, &case.new].map(|lent| pixel_blocks(size.width, lent));
@@ -431,19 +489,18 @@ fn read_back(case: &WriteCase, chunk: &[u8]) -> Vec<String> {
             *entry = SETTLED;
         }
     }
-    let read = Board {
-        size,
-        picture: case.new.clone(),
-        map,
-    };
-    let expected = Outcome::of(&read, |_, map| Answer {
-        number: 0,
-        place: chunk.len(),
-        block: map.len(),
+    let read = Board::with_true_record(size, case.new.clone(), map);
+    let expected = Outcome::of(&read, |_, map| Recorded {
+        answer: answered((0, At::end(chunk.len(), map))),
+        record: read.record(),
     });
+    let lent = Record {
+        size,
+        unsettled: unsettled(&case.board.map),
+    };
     let back = |codec: Codec, name| {
         let found = Outcome::of(&case.board, |picture, map| {
-            (codec.read_chunk)(size, chunk, picture, map)
+            (codec.read_chunk)(lent, chunk, picture, map)
         });
         found.differences(&expected, [name, "should be"])
     };
@@ -484,7 +541,7 @@ pub fn fresh_map_and_count(board: &Board) -> (Vec<String>, u8) {
     let [ours, theirs] =
         [LIBRARY, SECOND].map(|codec| Outcome::of(board, |_, map| (codec.fresh_map)(size, map)));
     let mut differences = ours.differences(&theirs, NAMES);
-    let number = theirs.answer.number;
+    let number = theirs.answer.answer.number;
     let [ours, theirs] =
         [LIBRARY, SECOND].map(|codec| Outcome::of(board, |_, map| (codec.count)(size, map)));
     differences.extend(ours.differences(&theirs, NAMES));

@@ -1,10 +1,10 @@
 //! Paper 01's numbered examples that concern reading, with fresh map and count, and the one that 02
-//! adds.
+//! adds. All that is lent a record here is lent a true one.
 
 use std::fmt::Debug;
 
-use seatboard::exact::{Answer, Count};
-use seatboard::Size;
+use seatboard::exact::{Answer, Count, Recorded};
+use seatboard::{Record, Size};
 
 use crate::compare::{Codec, Outcome};
 use crate::generate::{self, Board, SETTLED};
@@ -142,23 +142,15 @@ pub fn check(codec: &Codec) -> Result<(), String> {
 /// fresh map.
 pub fn lent_board(size: Size) -> Board {
     let pixels = size.width * size.height;
-    Board {
-        size,
-        picture: lent_picture(pixels),
-        map: fresh(pixels / 16),
-    }
+    Board::with_true_record(size, lent_picture(pixels), fresh(pixels / 16))
 }
 
-/// The board that it leaves: the picture and map given, or else what was lent.
+/// The board that it leaves: the picture and map given, or else what was lent; with a true record.
 pub fn left_board(lent: &Board, leaves: &Option<(Vec<u8>, Vec<u16>)>) -> Board {
     let (picture, map) = leaves
         .clone()
         .unwrap_or((lent.picture.clone(), lent.map.clone()));
-    Board {
-        size: lent.size,
-        picture,
-        map,
-    }
+    Board::with_true_record(lent.size, picture, map)
 }
 
 fn check_chunk(codec: &Codec, example: &Example) -> Result<(), String> {
@@ -183,11 +175,19 @@ pub fn check_read(
     chunk: &[u8],
     says: Said,
 ) -> Result<(), String> {
-    let size = boards[0].size;
-    let read = |picture: &mut [u8], map: &mut [u16]| (codec.read_chunk)(size, chunk, picture, map);
-    check_call(boards, read, answer(says), || {
-        format!("chunk {} at {size:?}", bytes_in_short(chunk))
+    let lent = boards[0].record();
+    let read = |picture: &mut [u8], map: &mut [u16]| (codec.read_chunk)(lent, chunk, picture, map);
+    check_call(boards, read, recorded(says, boards[1]), || {
+        format!("chunk {} with {lent:?}", bytes_in_short(chunk))
     })
+}
+
+/// What a call should say that leaves this board.
+pub fn recorded(says: Said, left: &Board) -> Recorded {
+    Recorded {
+        answer: answer(says),
+        record: left.record(),
+    }
 }
 
 /// The same of any call.
@@ -210,17 +210,23 @@ fn check_maps(
     number: u8,
 ) -> Result<(), String> {
     let lent = map_board(size, vec![SETTLED; entries]);
-    let made = map_board(size, fresh(entries));
     let left = if number == 0 {
-        made
+        map_board(size, fresh(entries))
     } else {
         map_board(size, vec![SETTLED; entries])
     };
+    let unsettled = if number == 0 { entries } else { 0 };
+    let made = Recorded {
+        answer: number_alone(number),
+        record: Record {
+            size: lent.size,
+            unsettled,
+        },
+    };
     let make = |_: &mut [u8], map: &mut [u16]| (codec.fresh_map)(lent.size, map);
-    check_call([&lent, &left], make, number_alone(number), || {
+    check_call([&lent, &left], make, made, || {
         format!("fresh map of {size:?}")
     })?;
-    let unsettled = if number == 0 { entries } else { 0 };
     check_count(codec, &left, number, unsettled)
 }
 
@@ -242,11 +248,7 @@ pub fn without(differences: Vec<String>, name: impl FnOnce() -> String) -> Resul
 }
 
 fn map_board((width, height): (usize, usize), map: Vec<u16>) -> Board {
-    Board {
-        size: size(width, height),
-        picture: Vec::new(),
-        map,
-    }
+    Board::with_true_record(size(width, height), Vec::new(), map)
 }
 
 pub fn fresh(entries: usize) -> Vec<u16> {

@@ -1,10 +1,10 @@
 //! Feeds made by hand, with what 01 says of them; the first is the one whose listing 01 gives.
-//! All are walked over a fresh map, and all but two over an 8x4 board.
+//! All are walked over a fresh map and its record, and all but three over an 8x4 board.
 
 use seatboard::Size;
 
 use crate::compare::Codec;
-use crate::examples::{answer, check_call, left_board, lent_board, lent_picture, Said};
+use crate::examples::{check_call, left_board, lent_board, lent_picture, recorded, Said};
 use crate::generate::{Board, FULL, SETTLED};
 use crate::replay::bytes_in_short;
 
@@ -14,6 +14,11 @@ const LENT: Size = Size {
 };
 const EIGHT: Size = Size {
     width: 16,
+    height: 8,
+};
+/// With buffers of the same lengths as on 8x4.
+const UPRIGHT: Size = Size {
+    width: 4,
     height: 8,
 };
 
@@ -73,9 +78,13 @@ fn whole_feeds() -> Vec<Example> {
     let one_after_other = [&[2, 1], &NINE[..], &COPIED].concat();
     // A length of 300, AC 02, whose chunk states 0 and is refused.
     let three_hundred = [&[2, 1, 0xAC, 2], &[0; 300][..], &FIVES].concat();
-    // 4x8 has buffers of the same lengths; there block 0 is the first sixteen pixels.
-    let upright = [1, 2, 7, 0xE1, 0, 0, 7, 0x60, 5, 0x00];
+    // On 4x8 block 0 is the first sixteen pixels.
     let upper_half = [&[5; 16], &lent_picture(32)[16..]].concat();
+    let upright = [1, 2, 7, 0xE1, 0, 0, 7, 0x60, 5, 0x00];
+    let upright = Example {
+        size: UPRIGHT,
+        ..changed(&upright, (0, 10, 2), &upper_half, [SETTLED, 1])
+    };
     let settled = [SETTLED; 2];
     vec![
         changed(LISTING, (0, 21, 2), &[5; 32], settled),
@@ -88,7 +97,7 @@ fn whole_feeds() -> Vec<Example> {
         unchanged(&[2, 1, 6, 0xE1, 0, 0, 9, 0x61, 5, 0, 0, 0], (0, 12, 2)),
         changed(&one_after_other, (0, 17, 2), &[9; 32], settled),
         changed(&three_hundred, (0, 311, 2), &[5; 32], settled),
-        changed(&upright, (0, 10, 2), &upper_half, [SETTLED, 1]),
+        upright,
         // That the last chunk was refused at another block does not show.
         unchanged(&[&[2, 1], &HALF[..]].concat(), (0, 8, 2)),
         changed(&then_refused, (0, 15, 2), &[5; 32], settled),
@@ -131,6 +140,7 @@ fn failing_numbers() -> Vec<Example> {
 }
 
 fn sizes_and_orders() -> Vec<Example> {
+    let upright = [&[1, 2], &FIVES[..]].concat();
     vec![
         unchanged(&[0, 1], (1, 0, 0)),
         unchanged(&[2, 0], (1, 0, 0)),
@@ -140,6 +150,10 @@ fn sizes_and_orders() -> Vec<Example> {
         unchanged(&[2, 0xFF, 0xFF, 0xFF, 7], (1, 0, 0)),
         unchanged(&[2, 2], (2, 0, 0)),
         unchanged(&[1, 1], (2, 0, 0)),
+        // 02: not the record's, although the buffers would fit.
+        unchanged(&upright, (2, 0, 0)),
+        unchanged(&[1, 2], (2, 0, 0)),
+        unchanged(&[1, 2, 0x80, 0], (2, 0, 0)),
         // Both size numbers are read before the size is checked.
         unchanged(&[0, 0x80], (13, 1, 0)),
         unchanged(&[0x80, 1, 0x80], (13, 2, 0)),
@@ -190,8 +204,9 @@ pub fn check_walk(
     feed: &[u8],
     says: Said,
 ) -> Result<(), String> {
-    let walk = |picture: &mut [u8], map: &mut [u16]| (codec.walk_feed)(feed, picture, map);
-    check_call(boards, walk, answer(says), || {
-        format!("feed {}", bytes_in_short(feed))
+    let lent = boards[0].record();
+    let walk = |picture: &mut [u8], map: &mut [u16]| (codec.walk_feed)(lent, feed, picture, map);
+    check_call(boards, walk, recorded(says, boards[1]), || {
+        format!("feed {} with {lent:?}", bytes_in_short(feed))
     })
 }

@@ -1,9 +1,11 @@
 //! What the compared feeds had in them, so that a run which missed something says so.
 
 use seatboard::Size;
+use second::reader;
 use second::walk::{self, ChunkRead, Fault, Number, Stop};
 
 use crate::compare::FeedComparison;
+use crate::count_tally::walked;
 use crate::feeds::FeedCase;
 use crate::tally::{named, Counts, Numbers, Thing, Things};
 
@@ -37,7 +39,9 @@ pub struct FeedTally {
     at_the_end: Things<3>,
     orders: Things<6>,
     chunks: Things<5>,
-    changes: Things<3>,
+    changes: Things<2>,
+    records: Things<6>,
+    counts: Things<7>,
     /// Chunks that were read, by the groups of their lengths, and the accepted ones among them.
     groups: [usize; 4],
     accepted_groups: [usize; 4],
@@ -62,7 +66,9 @@ impl FeedTally {
         self.at_the_end.add(at_the_end(case, compared));
         self.orders.add(orders(case, compared));
         self.chunks.add(chunks(compared));
-        self.changes.add(changes(case, compared));
+        self.changes.add(changes(compared));
+        self.records.add(records(case, compared));
+        self.counts.add(walked(&case.board, &compared.walk));
     }
 
     pub fn end_counts(&self) -> Counts {
@@ -89,6 +95,10 @@ impl FeedTally {
 
     pub fn chunk_counts(&self) -> Counts {
         [self.chunks.counts(), self.changes.counts()].concat()
+    }
+
+    pub fn record_counts(&self) -> Counts {
+        [self.records.counts(), self.counts.counts()].concat()
     }
 
     /// Of long feeds: accepted chunks can have lengths of up to three groups.
@@ -181,13 +191,8 @@ fn chunks(compared: &FeedComparison) -> [Thing; 5] {
 }
 
 /// Whether they showed.
-fn changes(case: &FeedCase, compared: &FeedComparison) -> [Thing; 3] {
+fn changes(compared: &FeedComparison) -> [Thing; 2] {
     let (number, _) = compared.walk.number_and_at();
-    let Size { width, height } = case.board.size;
-    let other_size = match leading_numbers(&case.feed).0[..] {
-        [across, down, ..] => (4 * across, 4 * down) != (width, height),
-        _ => false,
-    };
     [
         (
             "walks that changed the board and got 12",
@@ -197,9 +202,36 @@ fn changes(case: &FeedCase, compared: &FeedComparison) -> [Thing; 3] {
             "walks that changed the board and got 13",
             compared.changed && number == 13,
         ),
+    ]
+}
+
+/// The feed's size beside the record's.
+fn records(case: &FeedCase, compared: &FeedComparison) -> [Thing; 6] {
+    let (number, _) = compared.walk.number_and_at();
+    let (numbers, _) = leading_numbers(&case.feed);
+    let Size { width, height } = case.board.size;
+    let same = match numbers[..] {
+        [across, down, ..] => (4 * across, 4 * down) == (width, height),
+        _ => false,
+    };
+    let allowed = reader::check_size(width, height).is_ok();
+    let fits = buffers_fit(case, &numbers) == [true, true];
+    let other = number == 2 && !same && fits;
+    [
+        ("2 by another size, allowed, alone", other && allowed),
         (
-            "walks that changed a board of another size",
-            compared.changed && other_size,
+            "2 by a record's size that is not allowed alone",
+            other && !allowed,
+        ),
+        ("2 by the lengths alone", number == 2 && same),
+        (
+            "1 where the record's size is allowed",
+            number == 1 && allowed,
+        ),
+        ("1 where the record's size is the same", number == 1 && same),
+        (
+            "12 or 13 before the record's size is found not allowed",
+            matches!(number, 12 | 13) && !allowed,
         ),
     ]
 }

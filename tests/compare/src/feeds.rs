@@ -7,7 +7,7 @@ use seatboard::Size;
 use crate::generate::{self, Board, FULL};
 use crate::random::Random;
 
-/// The walk is lent the board's buffers; it is not told the board's size.
+/// The walk is lent the board's buffers and record, whose size need not be the feed's.
 pub struct FeedCase {
     pub board: Board,
     pub feed: Vec<u8>,
@@ -49,10 +49,7 @@ pub fn for_program(seed: u64, number: u64) -> Vec<u8> {
 fn about_16_000_pixels(random: &mut Random) -> Size {
     let in_blocks = [(40, 25), (20, 50), (80, 12), (77, 13), (80, 13)];
     let (across, down) = random.pick(&in_blocks);
-    Size {
-        width: 4 * across,
-        height: 4 * down,
-    }
+    size_in_blocks(across, down)
 }
 
 /// Feeds too long to be made often: hundreds of chunks at the greatest size, and chunks at each
@@ -126,7 +123,7 @@ pub fn size_numbers(size: Size) -> Option<Vec<u8>> {
     sayable.then(|| [shortest(across), shortest(down)].concat())
 }
 
-/// Chunks for that size; the feed states it or another, and the buffers need not fit.
+/// Chunks for that size; the feed states it or another, and buffers and record need not fit.
 pub fn any_case(random: &mut Random, size: Size) -> FeedCase {
     let right = in_blocks(size);
     let (stated, board) = match random.below(32) {
@@ -143,6 +140,7 @@ pub fn any_case(random: &mut Random, size: Size) -> FeedCase {
             (stated, generate::fitting_board(random, size))
         }
         7 | 8 => (right, generate::board_of_wrong_lengths(random, size)),
+        9 => (right, board_of_another_size(random, size)),
         _ => (right, generate::fitting_board(random, size)),
     };
     let parts = Parts::feed(stated, any_chunks(random, size));
@@ -176,13 +174,33 @@ fn wrong_extent(random: &mut Random, right: usize, most: usize) -> usize {
     }
 }
 
-/// Buffers that would fit, where they are not too long, so that only the size is at fault.
+/// Buffers that would fit, where they are not too long, so that only the size is at fault; the record
+/// has it too, or the right one.
 fn board_as_if_allowed(random: &mut Random, stated: (usize, usize), right: Size) -> Board {
-    let blocks = stated.0 * stated.1;
+    let (across, down) = stated;
+    let blocks = across * down;
     if blocks > 4_000 || random.one_in(4) {
         return generate::fitting_board(random, right);
     }
-    generate::lent_board(random, right, 16 * blocks, blocks)
+    let mut board = generate::lent_board(random, right, 16 * blocks, blocks);
+    if random.one_in(2) {
+        board.size = size_in_blocks(across, down);
+    }
+    board
+}
+
+/// Buffers that fit, and a record of which only the size is at fault.
+fn board_of_another_size(random: &mut Random, right: Size) -> Board {
+    let mut board = generate::fitting_board(random, right);
+    board.size = generate::wrong_size(random, right);
+    board
+}
+
+fn size_in_blocks(across: usize, down: usize) -> Size {
+    Size {
+        width: 4 * across,
+        height: 4 * down,
+    }
 }
 
 /// Any allowed size whose buffers have the lengths of the given one's, such as 4x8 for 8x4.

@@ -1,7 +1,7 @@
 //! The cases: boards and chunks, valid, damaged and arbitrary. It knows how a chunk is laid out
 //! from paper 01 and shares nothing with the second reader, which alone says what is right.
 
-use seatboard::Size;
+use seatboard::{Record, Size};
 
 use crate::random::Random;
 
@@ -12,11 +12,32 @@ pub const FULL: Size = Size {
     height: 200,
 };
 
-/// A size with the buffers lent for it, which need not fit each other.
+/// A size with the buffers lent for it, which need not fit each other, and the count that is lent with
+/// it in a record, which need not be that of the map.
 pub struct Board {
     pub size: Size,
+    pub unsettled: usize,
     pub picture: Vec<u8>,
     pub map: Vec<u16>,
+}
+
+impl Board {
+    /// With the record that is true to its map.
+    pub fn with_true_record(size: Size, picture: Vec<u8>, map: Vec<u16>) -> Self {
+        Board {
+            size,
+            unsettled: unsettled(&map),
+            picture,
+            map,
+        }
+    }
+
+    pub fn record(&self) -> Record {
+        Record {
+            size: self.size,
+            unsettled: self.unsettled,
+        }
+    }
 }
 
 pub struct Case {
@@ -108,10 +129,41 @@ pub fn fitting_board(random: &mut Random, size: Size) -> Board {
 }
 
 pub fn lent_board(random: &mut Random, size: Size, pixels: usize, entries: usize) -> Board {
+    let picture = random.bytes(pixels);
+    let map = any_map(random, entries);
     Board {
         size,
-        picture: random.bytes(pixels),
-        map: any_map(random, entries),
+        unsettled: any_count(random, &map),
+        picture,
+        map,
+    }
+}
+
+/// How many entries are unsettled: what a true record says.
+pub fn unsettled(map: &[u16]) -> usize {
+    map.iter().filter(|entry| **entry != SETTLED).count()
+}
+
+/// The count of a record: as often as not true to the map.
+pub fn any_count(random: &mut Random, map: &[u16]) -> usize {
+    let right = unsettled(map);
+    if random.one_in(2) {
+        return right;
+    }
+    let blocks = map.len();
+    match random.below(16) {
+        0..=2 => 0,
+        3 | 4 => right.wrapping_sub(1),
+        5 | 6 => right + 1,
+        7 | 8 => blocks,
+        9 => blocks + 1,
+        10 => usize::MAX,
+        11 | 12 => random.between(0, blocks),
+        // A chunk that settles enough brings it down to what is allowed.
+        13 => random.between(blocks, 2 * blocks),
+        14 => usize::MAX - random.below(8),
+        // True, if only the lower bits were looked at.
+        _ => right + random.pick(&[1 << 8, 1 << 16, 1 << 32, 1 << 63]),
     }
 }
 
@@ -120,7 +172,9 @@ pub fn any_map(random: &mut Random, entries: usize) -> Vec<u16> {
     let mut entry = |place: usize| match kind {
         0 | 1 => place as u16,
         2 => SETTLED,
-        3 | 4 => random.next() as u16,
+        3 => random.next() as u16,
+        // A copy of one of the few others unsettles.
+        4 if !random.one_in(4) => SETTLED,
         _ => match random.below(4) {
             0 => SETTLED,
             1 => SETTLED - 1 - random.below(3) as u16,
@@ -134,6 +188,17 @@ pub fn any_map(random: &mut Random, entries: usize) -> Vec<u16> {
 /// A size that is not allowed, with buffers as if it were: of the product, where that is small
 /// or wraps to something small, or else of the size it was made from.
 pub fn board_of_wrong_size(random: &mut Random, right: Size) -> Board {
+    let size = wrong_size(random, right);
+    let product = size.width.wrapping_mul(size.height);
+    let pixels = if product <= 70_000 {
+        product
+    } else {
+        right.width * right.height
+    };
+    lent_board(random, size, pixels, pixels / 16)
+}
+
+pub fn wrong_size(random: &mut Random, right: Size) -> Size {
     let mut size = right;
     match random.below(4) {
         0 => size.width = wrong_extent(random, right.width, 320),
@@ -145,13 +210,7 @@ pub fn board_of_wrong_size(random: &mut Random, right: Size) -> Board {
         // The product wraps to the right size's own number of pixels.
         _ => size.width += (1 << 62) * random.between(1, 3),
     }
-    let product = size.width.wrapping_mul(size.height);
-    let pixels = if product <= 70_000 {
-        product
-    } else {
-        right.width * right.height
-    };
-    lent_board(random, size, pixels, pixels / 16)
+    size
 }
 
 fn wrong_extent(random: &mut Random, right: usize, most: usize) -> usize {
@@ -207,6 +266,7 @@ pub fn any_chunk(random: &mut Random, size: Size) -> Vec<u8> {
         6..=9 => valid_then_wrong(random, blocks),
         10..=15 => damaged(random, blocks),
         16..=18 => followed(random, blocks),
+        19..=21 => sparse_chunk(random, size),
         _ => valid(random, blocks).chunk,
     }
 }

@@ -82,8 +82,8 @@ fn padded(feed: &[u8]) -> bool {
     let Ok(((width, height), _)) = walk::size(feed) else {
         return false;
     };
-    let (mut picture, mut map) = own_board(Size { width, height });
-    let walk = walk::walk(feed, &mut picture, &mut map);
+    let (mut record, mut picture, mut map) = own_board(Size { width, height });
+    let walk = walk::walk(&mut record, feed, &mut picture, &mut map);
     walk.chunks.iter().any(|chunk| chunk.padding > 0)
 }
 

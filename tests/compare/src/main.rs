@@ -10,9 +10,12 @@
 //! examples.rs, block_examples.rs, padding_examples.rs, feed_examples.rs, run_examples.rs,
 //! write_examples.rs and symbol_examples.rs try both on paper 01's examples and on others made by
 //! hand, and drawings.rs on the symbols in examples/.
+//! Whatever reads chunks is lent a record, true to its map or not; record_examples.rs has some made by
+//! hand, and count_tally.rs counts what became of them.
 //! Each chunk written is read back by both readers, and each run is also handed over chunk by chunk
 //! and behind size numbers. program.rs runs the board program, on the cases of program_cases.rs and
-//! on random feeds (listings.rs). sequences.rs makes sequences of calls, and two_boards.rs runs them.
+//! on random feeds (listings.rs). sequences.rs makes sequences of calls; kept.rs runs them beside the
+//! second reader, with the record handed on from call to call, and two_boards.rs on two boards.
 //!
 //! From the repository's root, with the library in target/lib or in $SEATBOARD_LIB and the board
 //! program as target/bin/board or $SEATBOARD_BOARD:
@@ -29,18 +32,21 @@
 
 mod block_examples;
 mod compare;
+mod count_tally;
 mod drawings;
 mod examples;
 mod feed_examples;
 mod feed_tally;
 mod feeds;
 mod generate;
+mod kept;
 mod listings;
 mod padding_examples;
 mod pictures;
 mod program;
 mod program_cases;
 mod random;
+mod record_examples;
 mod replay;
 mod report;
 mod run_examples;
@@ -61,6 +67,7 @@ use std::process::ExitCode;
 use second::reader;
 
 use compare::{LIBRARY, SECOND};
+use count_tally::CountTally;
 use feed_tally::FeedTally;
 use feeds::FeedCase;
 use generate::{Board, Case};
@@ -85,6 +92,8 @@ const SYMBOLS: u64 = 40_000;
 const SEQUENCES: u64 = 20_000;
 /// How often a thing must occur for the comparison to count as having tried it.
 const ENOUGH: usize = 100;
+/// The same for 21, below 0 and above the number of blocks.
+const OFTEN: usize = 1_000;
 /// The same for the feeds that the board program is run on, which are fewer.
 const ENOUGH_LISTINGS: usize = 5;
 
@@ -112,7 +121,8 @@ fn main() -> ExitCode {
     let (seed, chunks, feeds) = (options.seed, options.chunks, options.feeds);
     println!(
         "seed {seed}, {chunks} chunks, {BOARDS} maps, {feeds} feeds, {RUNS} runs, \
-         {WRITES} writes, {SYMBOLS} symbols, {} listings, {SEQUENCES} sequences on two boards",
+         {WRITES} writes, {SYMBOLS} symbols, {} listings, {SEQUENCES} sequences with records and \
+         on two boards",
         listings::FEEDS
     );
     let mut report = Report::default();
@@ -123,7 +133,7 @@ fn main() -> ExitCode {
     check_writes(seed, &mut report);
     check_symbols(seed, &mut report);
     check_program(seed, &mut report);
-    check_two_boards(seed, &mut report);
+    check_sequences(seed, &mut report);
     println!("{} passed, {} failed", report.passed, report.failed);
     if report.failed == 0 {
         ExitCode::SUCCESS
@@ -139,6 +149,7 @@ fn check_read_examples(report: &mut Report) {
         check("01's examples", examples::check(codec));
         check("chunks stopped at a block", block_examples::check(codec));
         check("bytes after the last block", padding_examples::check(codec));
+        check("records made by hand", record_examples::check(codec));
     }
 }
 
@@ -163,6 +174,7 @@ fn check_reading(options: &Options, report: &mut Report) {
         ENOUGH,
         tally.following_counts(),
     );
+    check_counted(&tally.counts, report);
 
     let mut numbers = Numbers::default();
     let compared = compare_maps(seed, &mut numbers);
@@ -172,6 +184,19 @@ fn check_reading(options: &Options, report: &mut Report) {
         ENOUGH,
         numbers.counts("number", 0..=2),
     );
+}
+
+/// What became of the records that were lent with the chunks.
+fn check_counted(counts: &CountTally, report: &mut Report) {
+    let never = match counts.true_refused() {
+        0 => Ok(()),
+        times => Err(format!("{times} times")),
+    };
+    report.check("21 never by a true record", never);
+    report.check_counts("21 from each side", OFTEN, counts.side_counts());
+    report.check_counts("records", ENOUGH, counts.record_counts());
+    report.check_counts("counts at their bounds", ENOUGH, counts.bound_counts());
+    report.check_counts("21 last of all", ENOUGH, counts.before_counts());
 }
 
 fn check_walks(options: &Options, report: &mut Report) {
@@ -189,6 +214,7 @@ fn check_walks(options: &Options, report: &mut Report) {
     report.check_counts("walks: 12 and 13", ENOUGH, tally.number_counts());
     report.check_counts("walks: orders", ENOUGH, tally.order_counts());
     report.check_counts("walks: chunks", ENOUGH, tally.chunk_counts());
+    report.check_counts("walks: records", ENOUGH, tally.record_counts());
 
     let mut tally = FeedTally::default();
     let cases = feeds::long_cases(seed);
@@ -211,6 +237,7 @@ fn check_runs(seed: u64, report: &mut Report) {
     report.check_counts("runs: boards", ENOUGH, tally.board_counts());
     report.check_counts("runs: 12 and 13", ENOUGH, tally.stop_counts());
     report.check_counts("runs: chunks", ENOUGH, tally.chunk_counts());
+    report.check_counts("runs: records", ENOUGH, tally.record_counts());
 
     // Nothing more is asked of what the few long ones have in them than of the feeds.
     let name = format!("seed {seed}, long run");
@@ -271,14 +298,26 @@ fn check_program(seed: u64, report: &mut Report) {
     report.check_counts("listings", ENOUGH_LISTINGS, things.counts());
 }
 
-fn check_two_boards(seed: u64, report: &mut Report) {
+/// With the record handed on beside the second reader, and on two boards.
+fn check_sequences(seed: u64, report: &mut Report) {
+    let mut tally = kept::Tally::default();
+    let compared = try_sequences(seed, |sequence| kept::check(sequence, &mut tally));
+    report.check("records handed on", compared);
+    report.check_counts("records handed on", ENOUGH, tally.counts());
+
     let mut tally = two_boards::Tally::default();
-    let sequences = (0..SEQUENCES).map(|number| sequences::case(seed, number));
-    let contradictions = |sequence: &Sequence| two_boards::check(sequence, &mut tally);
-    let name = format!("seed {seed}, sequence");
-    let claim = compare_each(&name, sequences, contradictions, sequence_in_short);
+    let claim = try_sequences(seed, |sequence| two_boards::check(sequence, &mut tally));
     report.check("two boards: demand 3", claim);
     report.check_counts("two boards", ENOUGH, tally.counts());
+}
+
+fn try_sequences(
+    seed: u64,
+    contradictions: impl FnMut(&Sequence) -> Vec<String>,
+) -> Result<(), String> {
+    let sequences = (0..SEQUENCES).map(|number| sequences::case(seed, number));
+    let name = format!("seed {seed}, sequence");
+    compare_each(&name, sequences, contradictions, sequence_in_short)
 }
 
 fn options() -> Result<Options, String> {

@@ -2,14 +2,11 @@
 //! to three of them if all are zero. Each is read, and walked alone and before another chunk, in a
 //! feed and in a run.
 
-use seatboard::exact::Tally;
 use seatboard::Size;
 
 use crate::block_examples::{self, keep, refused, Example, LEADS};
 use crate::compare::Codec;
-use crate::examples::{
-    answer, check_read, chunk_of, left_board, lent_board, size, HALF_BYTES, LOWER_LEFT,
-};
+use crate::examples::{check_read, chunk_of, left_board, lent_board, size, HALF_BYTES, LOWER_LEFT};
 use crate::feed_examples;
 use crate::feeds::{self, Parts};
 use crate::generate::{Board, FULL};
@@ -159,7 +156,8 @@ impl Whole {
     fn new(codec: &Codec, size: Size, opcodes: Vec<u8>) -> Self {
         let read = |chunk: &[u8], board: &Board| {
             let mut left = left_board(board, &None);
-            (codec.read_chunk)(size, chunk, &mut left.picture, &mut left.map);
+            let read = (codec.read_chunk)(board.record(), chunk, &mut left.picture, &mut left.map);
+            left.unsettled = read.record.unsettled;
             left
         };
         let next = chunk_of(&[&[0x60, 7], &keep(size.blocks() - 1)[..]].concat());
@@ -208,8 +206,8 @@ impl Whole {
     ) -> Result<(), String> {
         let (size, boards) = (self.lent.size, [&self.lent, left]);
         let run = Parts::run(chunks).bytes();
-        let answer = answer((0, run.len(), size.blocks()));
-        run_examples::check_walk(codec, boards, &run, Tally { answer, accepted })?;
+        let says = (0, run.len(), size.blocks());
+        run_examples::check_walk(codec, boards, &run, says, accepted)?;
         let numbers = feeds::size_numbers(size).expect("an allowed size");
         let feed = [numbers, run].concat();
         feed_examples::check_walk(codec, boards, &feed, (0, feed.len(), size.blocks()))

@@ -135,11 +135,11 @@ impl Pictures {
 
     fn lent(&self, random: &mut Random, output: usize) -> WriteCase {
         WriteCase {
-            board: Board {
-                size: self.size,
-                picture: self.old.clone(),
-                map: generate::any_map(random, self.blocks()),
-            },
+            board: Board::with_true_record(
+                self.size,
+                self.old.clone(),
+                generate::any_map(random, self.blocks()),
+            ),
             new: self.new.clone(),
             output: random.bytes(output),
         }

@@ -10,12 +10,13 @@ use second::walk::Walk;
 use crate::compare;
 use crate::feeds::{self, FeedCase};
 use crate::generate::{self, Board, Case};
+use crate::kept;
 use crate::pictures::{self, WriteCase};
 use crate::program::{self, Handed};
 use crate::runs::{self, RunCase};
 use crate::sequences::{self, Call, Sequence};
 use crate::symbols::{self, SymbolCase};
-use crate::two_boards::{self, Tally};
+use crate::two_boards;
 
 #[derive(Clone, Copy)]
 pub enum Replay {
@@ -138,7 +139,13 @@ fn sequence(seed: u64, number: u64) -> Vec<String> {
             Call::Run(run) => println!("run {run:02X?}"),
         }
     }
-    two_boards::check(&sequence, &mut Tally::default())
+    println!("map {:?} and count {}", sequence.maps[0], sequence.count);
+    let mut wrong = kept::check(&sequence, &mut kept::Tally::default());
+    wrong.extend(two_boards::check(
+        &sequence,
+        &mut two_boards::Tally::default(),
+    ));
+    wrong
 }
 
 fn print_board(name: &str, board: &Board) {
@@ -153,7 +160,8 @@ const SHORT: usize = 80;
 pub fn board_in_short(board: &Board) -> String {
     let Size { width, height } = board.size;
     let (pixels, entries) = (board.picture.len(), board.map.len());
-    format!("{width}x{height}, {pixels} pixels and {entries} map entries lent")
+    let count = board.unsettled;
+    format!("{width}x{height}, {pixels} pixels, {entries} map entries and count {count} lent")
 }
 
 pub fn case_in_short(Case { board, chunk }: &Case) -> String {

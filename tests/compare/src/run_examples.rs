@@ -17,7 +17,7 @@ use crate::runs::{RunCase, BACKLOG};
 const LENT: Size = size(8, 4);
 
 /// Accepted, and changes nothing; refused with 3; refused with 8. With their lengths in front.
-const KEPT: [u8; 6] = [5, 0xE1, 0, 0, 5, 0x01];
+pub const KEPT: [u8; 6] = [5, 0xE1, 0, 0, 5, 0x01];
 const EMPTY: [u8; 1] = [0];
 const REFUSED: [u8; 6] = [5, 0xE1, 0, 0, 5, 0x21];
 
@@ -260,11 +260,7 @@ fn refused_boards() -> Vec<Example> {
     let runs: [&[u8]; 5] = [&FIVES, &[], &EMPTY, &[0x80, 0], &[9]];
     let refused = |run: &[u8], (number, size, pixels, entries)| {
         let mut example = unchanged(run, (number, 0, 0), 0);
-        example.case.board = Board {
-            size,
-            picture: lent_picture(pixels),
-            map: fresh(entries),
-        };
+        example.case.board = Board::with_true_record(size, lent_picture(pixels), fresh(entries));
         example
     };
     let by_each = |run: &&[u8]| REFUSED_BOARDS.map(|board| refused(run, board));
@@ -292,11 +288,7 @@ pub fn check(codec: &Codec) -> Result<(), String> {
 fn check_run(codec: &Codec, example: &Example) -> Result<(), String> {
     let RunCase { board, run } = &example.case;
     let left = left_board(board, &example.leaves);
-    let tally = Tally {
-        answer: answer(example.says),
-        accepted: example.accepted,
-    };
-    check_walk(codec, [board, &left], run, tally)
+    check_walk(codec, [board, &left], run, example.says, example.accepted)
 }
 
 /// What a run should tell over the first board, and leave of it.
@@ -304,11 +296,17 @@ pub fn check_walk(
     codec: &Codec,
     boards: [&Board; 2],
     run: &[u8],
-    tally: Tally,
+    says: Said,
+    accepted: usize,
 ) -> Result<(), String> {
-    let size = boards[0].size;
-    let walk = |picture: &mut [u8], map: &mut [u16]| (codec.walk_run)(size, run, picture, map);
+    let lent = boards[0].record();
+    let walk = |picture: &mut [u8], map: &mut [u16]| (codec.walk_run)(lent, run, picture, map);
+    let tally = Tally {
+        answer: answer(says),
+        accepted,
+        record: boards[1].record(),
+    };
     check_call(boards, walk, tally, || {
-        format!("run {} at {size:?}", bytes_in_short(run))
+        format!("run {} with {lent:?}", bytes_in_short(run))
     })
 }

@@ -5,6 +5,7 @@ use second::reader::At;
 use second::walk::{ChunkRead, Fault, Stop, Walk};
 
 use crate::compare::RunComparison;
+use crate::count_tally::walked;
 use crate::feed_tally::{accepted_after_padded, refused_between};
 use crate::runs::{RunCase, BACKLOG};
 use crate::tally::{Counts, Numbers, Thing, Things};
@@ -16,6 +17,7 @@ pub struct RunTally {
     stops: Things<8>,
     refused: Things<6>,
     chunks: Things<5>,
+    counts: Things<7>,
 }
 
 impl RunTally {
@@ -26,6 +28,7 @@ impl RunTally {
         self.stops.add(stops(case, &compared.walk));
         self.refused.add(refused(&compared.walk));
         self.chunks.add(chunks(&compared.walk));
+        self.counts.add(walked(&case.board, &compared.walk));
     }
 
     pub fn end_counts(&self) -> Counts {
@@ -42,6 +45,10 @@ impl RunTally {
 
     pub fn chunk_counts(&self) -> Counts {
         [self.refused.counts(), self.chunks.counts()].concat()
+    }
+
+    pub fn record_counts(&self) -> Counts {
+        self.counts.counts()
     }
 }
 

@@ -2,7 +2,6 @@
 
 use seatboard::Size;
 use second::reader::pixel_blocks;
-use second::walk;
 
 use crate::feeds;
 use crate::generate;
@@ -12,7 +11,7 @@ use crate::runs;
 pub enum Call {
     /// A chunk, at the boards' size.
     Read(Vec<u8>),
-    /// A feed for that size, in 01's sense.
+    /// A feed, for that size in 01's sense: one of another size ends with 2, by the record.
     Walk(Vec<u8>),
     /// A run, at the boards' size.
     Run(Vec<u8>),
@@ -24,6 +23,8 @@ pub struct Sequence {
     pub starts: [Vec<u8>; 2],
     /// Any numbers: the maps before they are made fresh.
     pub maps: [Vec<u16>; 2],
+    /// A count for the first of them, untrue or not.
+    pub count: usize,
     pub calls: Vec<Call>,
 }
 
@@ -38,10 +39,12 @@ pub fn case(seed: u64, number: u64) -> Sequence {
         1..=5 => random.between(1, 4),
         _ => random.between(5, 12),
     };
+    let maps = [(); 2].map(|()| generate::any_map(random, size.blocks()));
     Sequence {
         size,
         starts: starting_pictures(random, size),
-        maps: [(); 2].map(|()| generate::any_map(random, size.blocks())),
+        count: generate::any_count(random, &maps[0]),
+        maps,
         calls: (0..calls).map(|_| any_call(random, size)).collect(),
     }
 }
@@ -68,24 +71,7 @@ fn any_call(random: &mut Random, size: Size) -> Call {
     match random.below(10) {
         0..=2 => Call::Read(generate::sparse_chunk(random, size)),
         3..=5 => Call::Read(generate::any_chunk(random, size)),
-        6 | 7 => Call::Walk(feed_for(random, size)),
+        6 | 7 => Call::Walk(feeds::any_case(random, size).feed),
         _ => Call::Run(runs::any_run(random, size)),
-    }
-}
-
-/// 01: a feed for that size has it as its size numbers, or its walk ends before any chunk is read.
-fn feed_for(random: &mut Random, size: Size) -> Vec<u8> {
-    loop {
-        let feed = feeds::any_case(random, size).feed;
-        let is_for_size = match walk::size(&feed) {
-            Err(_) => true,
-            Ok(((width, height), _)) => {
-                let stated = Size { width, height };
-                stated == size || stated.pixels() != size.pixels()
-            }
-        };
-        if is_for_size {
-            return feed;
-        }
     }
 }

@@ -2,9 +2,10 @@
 
 use seatboard::exact::Answer;
 use seatboard::Reason;
-use second::reader::{Command, Reading, Step};
+use second::reader::{Command, Step};
 
 use crate::compare::Comparison;
+use crate::count_tally::CountTally;
 use crate::generate::Case;
 
 /// How many calls got each number.
@@ -57,21 +58,27 @@ pub struct Tally {
     copies_of_skipped: usize,
     padding: Things<4>,
     following: Things<6>,
+    pub counts: CountTally,
 }
 
 impl Tally {
-    /// A refused chunk has no steps and so adds to nothing but the numbers, stops and what follows
-    /// the last block.
+    /// A refused chunk has no steps and so adds to nothing but the numbers, stops, counts and what
+    /// follows the last block.
     pub fn add(&mut self, Case { board, chunk }: &Case, compared: &Comparison) {
         let Comparison {
             answer, reading, ..
         } = compared;
         self.numbers.add(answer.number);
         self.add_stop(board.map.len(), *answer);
-        self.add_opcodes(chunk, &reading.steps);
-        self.add_tables(chunk, &reading.steps);
-        self.add_copies(board.size.width / 4, &reading.steps);
-        self.padding.add(padding(chunk, reading));
+        self.counts.add(board, answer.number, reading);
+        let (steps, followed) = match reading {
+            Ok(reading) => (&reading.steps[..], reading.padding),
+            Err(_) => (&[][..], 0),
+        };
+        self.add_opcodes(chunk, steps);
+        self.add_tables(chunk, steps);
+        self.add_copies(board.size.width / 4, steps);
+        self.padding.add(padding(chunk, followed));
         if answer.number == 11 {
             self.following.add(following(&chunk[answer.place..]));
         }
@@ -145,7 +152,7 @@ impl Tally {
     }
 
     pub fn number_counts(&self) -> Counts {
-        self.numbers.counts("number", 0..=11)
+        self.numbers.counts("number", (0..=11).chain([21]))
     }
 
     pub fn stop_counts(&self) -> Counts {
@@ -206,12 +213,12 @@ impl Tally {
     }
 }
 
-fn padding(chunk: &[u8], Reading { padding, .. }: &Reading) -> [Thing; 4] {
-    let no_fours = *padding > 0 && !chunk.len().is_multiple_of(4);
+fn padding(chunk: &[u8], padding: usize) -> [Thing; 4] {
+    let no_fours = padding > 0 && !chunk.len().is_multiple_of(4);
     [
-        ("accepted chunks with one byte of padding", *padding == 1),
-        ("accepted chunks with two bytes of padding", *padding == 2),
-        ("accepted chunks with three bytes of padding", *padding == 3),
+        ("accepted chunks with one byte of padding", padding == 1),
+        ("accepted chunks with two bytes of padding", padding == 2),
+        ("accepted chunks with three bytes of padding", padding == 3),
         (
             "of these, with a length that is no multiple of four",
             no_fours,

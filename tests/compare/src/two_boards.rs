@@ -5,7 +5,7 @@
 //! exactly when": a block that shows one and the same block of either start shows different pixels
 //! on the two boards, and one that shows the same pixels on both comes from neither start.
 
-use seatboard::{Accepted, Reason, Refused, Size, SETTLED};
+use seatboard::{Accepted, Reason, Record, Refused, Size, SETTLED};
 use second::reader::{self, pixel_blocks};
 use second::walk;
 
@@ -32,8 +32,9 @@ struct Ran {
     answers: Vec<Answered>,
     picture: Vec<u8>,
     map: Vec<u16>,
-    /// The count, at first and after each call.
+    /// The count and the record, at first and after each call.
     counts: Vec<usize>,
+    records: Vec<Record>,
 }
 
 /// What the sequences had, so that a comparison which missed something says so.
@@ -68,6 +69,7 @@ pub fn check(sequence: &Sequence, tally: &mut Tally) -> Vec<String> {
     tally.chunks.add(chunks(sequence, &first));
     tally.runs.add(runs(sequence, &first));
     let mut wrong = unequal(&first, &second);
+    wrong.extend(wrong_records(sequence.size, &first));
     wrong.extend(wrong_blocks(sequence, &first, &second));
     wrong
 }
@@ -77,27 +79,30 @@ fn run(sequence: &Sequence, board: usize) -> Result<Ran, Refused> {
     let size = sequence.size;
     let mut picture = sequence.starts[board].clone();
     let mut map = sequence.maps[board].clone();
-    seatboard::fresh_map(size, &mut map)?;
+    let mut record = seatboard::fresh_map(size, &mut map)?;
     let mut counts = vec![seatboard::count_unsettled(size, &map)?];
+    let mut records = vec![record];
     let mut answers = Vec::new();
     for call in &sequence.calls {
-        answers.push(answered(size, call, &mut picture, &mut map));
+        answers.push(answered(&mut record, call, &mut picture, &mut map));
         counts.push(seatboard::count_unsettled(size, &map)?);
+        records.push(record);
     }
     Ok(Ran {
         answers,
         picture,
         map,
         counts,
+        records,
     })
 }
 
-fn answered(size: Size, call: &Call, picture: &mut [u8], map: &mut [u16]) -> Answered {
+fn answered(record: &mut Record, call: &Call, picture: &mut [u8], map: &mut [u16]) -> Answered {
     let (end, accepted) = match call {
-        Call::Read(chunk) => (seatboard::read_chunk(size, chunk, picture, map), None),
-        Call::Walk(feed) => (seatboard::walk_feed(feed, picture, map), None),
+        Call::Read(chunk) => (seatboard::read_chunk(record, chunk, picture, map), None),
+        Call::Walk(feed) => (seatboard::walk_feed(record, feed, picture, map), None),
         Call::Run(run) => {
-            let tally = seatboard::walk_run(size, run, picture, map);
+            let tally = seatboard::walk_run(record, run, picture, map);
             (tally.end, Some(tally.accepted))
         }
     };
@@ -117,9 +122,28 @@ fn unequal(first: &Ran, second: &Ran) -> Vec<String> {
     if first.counts != second.counts {
         wrong.push(format!("counts {:?} and {:?}", first.counts, second.counts));
     }
+    if first.records != second.records {
+        wrong.push(format!("{:?} and {:?}", first.records, second.records));
+    }
     let unsettled = first.map.iter().filter(|entry| **entry != SETTLED).count();
     if first.counts.last() != Some(&unsettled) {
         wrong.push(format!("{:?} counted, {unsettled} there", first.counts));
+    }
+    wrong
+}
+
+/// 02: from a fresh start the record always has the count, and 21 is never given.
+fn wrong_records(size: Size, ran: &Ran) -> Vec<String> {
+    let mut wrong = Vec::new();
+    for (calls, (record, count)) in ran.records.iter().zip(&ran.counts).enumerate() {
+        let unsettled = *count;
+        if *record != (Record { size, unsettled }) {
+            wrong.push(format!("after {calls} calls: {record:?}, {count} counted"));
+        }
+    }
+    let bad_count = Reason::BadCount.number();
+    if ran.answers.iter().any(|call| call.number() == bad_count) {
+        wrong.push("21 from a fresh start".into());
     }
     wrong
 }
@@ -239,18 +263,24 @@ fn runs(sequence: &Sequence, ran: &Ran) -> [Thing; 6] {
 
 /// As the second walk finds them, on a board of its own.
 fn chunks_in(size: Size, run: &[u8]) -> usize {
-    let (mut picture, mut map) = own_board(size);
-    let walk = walk::walk_run((size.width, size.height), run, &mut picture, &mut map);
+    let (mut record, mut picture, mut map) = own_board(size);
+    let walk = walk::walk_run(&mut record, run, &mut picture, &mut map);
     walk.chunks.len()
 }
 
 /// Whether the second reader accepts it, with padding, on a board of its own.
 fn padded(size: Size, chunk: &[u8]) -> bool {
-    let (mut picture, mut map) = own_board(size);
-    let read = reader::read_chunk((size.width, size.height), chunk, &mut picture, &mut map);
+    let (mut record, mut picture, mut map) = own_board(size);
+    let read = reader::read_chunk(&mut record, chunk, &mut picture, &mut map);
     read.is_ok_and(|reading| reading.padding > 0)
 }
 
-pub fn own_board(size: Size) -> (Vec<u8>, Vec<u16>) {
-    (vec![0; size.pixels()], vec![0; size.blocks()])
+/// Its record, picture and map.
+pub fn own_board(size: Size) -> (reader::Record, Vec<u8>, Vec<u16>) {
+    let map = vec![0; size.blocks()];
+    let record = reader::Record {
+        size: (size.width, size.height),
+        unsettled: map.len(),
+    };
+    (record, vec![0; size.pixels()], map)
 }

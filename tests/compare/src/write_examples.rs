@@ -230,11 +230,7 @@ fn check_write(codec: &Codec, example: &Example, length: usize) -> Result<(), St
 fn case(example: &Example, output: usize) -> WriteCase {
     let (width, height) = example.size;
     WriteCase {
-        board: Board {
-            size: Size { width, height },
-            picture: example.old.clone(),
-            map: Vec::new(),
-        },
+        board: Board::with_true_record(Size { width, height }, example.old.clone(), Vec::new()),
         new: example.new.clone(),
         output: lent_picture(output),
     }

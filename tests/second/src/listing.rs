@@ -1,7 +1,7 @@
 //! The independent second listing: what the board program prints for a feed, written from papers
 //! 01 and 02 (its fifth column) over the second walk.
 
-use crate::reader::At;
+use crate::reader::{At, Record};
 use crate::walk;
 
 /// 01: the board program takes feeds up to these.
@@ -22,11 +22,15 @@ pub fn listing(feed: &[u8]) -> String {
     }
 }
 
-/// From an all-zero picture and a fresh map.
-fn board_and_chunks(feed: &[u8], (width, height): (usize, usize)) -> String {
+/// From an all-zero picture and a fresh map. What is printed as unsettled is counted in the map, and
+/// not what the record says.
+fn board_and_chunks(feed: &[u8], size: (usize, usize)) -> String {
+    let (width, height) = size;
     let mut picture = vec![0; width * height];
     let mut map: Vec<u16> = (0..).take(width * height / 16).collect();
-    let walk = walk::walk(feed, &mut picture, &mut map);
+    let unsettled = map.len();
+    let mut record = Record { size, unsettled };
+    let walk = walk::walk(&mut record, feed, &mut picture, &mut map);
     let mut text = format!("board {width} {height}\n");
     for (before, read) in walk.chunks.iter().enumerate() {
         let chunk = before + 1;

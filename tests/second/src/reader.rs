@@ -1,9 +1,10 @@
 //! The independent second reader of SMC chunks, written from papers 01 (the rules), 02 (which block,
-//! padding) and 003 (the published description) and from nothing of ours.
+//! padding, the kept count) and 003 (the published description) and from nothing of ours.
 //!
 //! A chunk is first parsed whole into commands, with every table entry already replaced by its
 //! colours. Only a chunk without fault is then applied, to a picture held as blocks; so a refused
-//! chunk cannot paint.
+//! chunk cannot paint. The blocks go back only where the record's count can follow: it is kept by
+//! comparing the map before with the one after, entry by entry.
 
 /// 01, "Picture, blocks, map": this map entry means settled.
 const SETTLED: u16 = 65_535;
@@ -33,8 +34,9 @@ impl At {
     }
 }
 
-/// 01, "Numbered outcomes", 1 to 11 and 14; those found in the opcodes carry where, and 14 the
-/// length of the chunk for which there is no room.
+/// 01, "Numbered outcomes", 1 to 11 and 14, and 02's 21; those found in the opcodes carry where, 14
+/// the length of the chunk for which there is no room, and 21 the count that there cannot be, with what
+/// would have led to it.
 #[derive(Clone, Copy, Debug)]
 pub enum Refusal {
     SizeNotAllowed,
@@ -49,6 +51,7 @@ pub enum Refusal {
     UnfilledEntry(At),
     BytesFollow(At),
     OutputTooShort(usize),
+    NoSuchCount(i128, Turned),
 }
 
 impl Refusal {
@@ -66,6 +69,7 @@ impl Refusal {
             Refusal::UnfilledEntry(at) => (10, at),
             Refusal::BytesFollow(at) => (11, at),
             Refusal::OutputTooShort(_) => (14, At::NOWHERE),
+            Refusal::NoSuchCount(..) => (21, At::NOWHERE),
         }
     }
 }
@@ -117,15 +121,62 @@ pub struct Reading {
     pub steps: Vec<Step>,
     /// How many bytes follow the last block (02).
     pub padding: usize,
+    pub turned: Turned,
 }
 
-/// 01: 1 and 2 are all that a fresh map refuses.
-pub fn fresh_map(width: usize, height: usize, map: &mut [u16]) -> Result<(), Refusal> {
-    check_map(width, height, map)?;
+/// How many blocks a chunk has made the other: newly unsettled and newly settled (02).
+#[derive(Clone, Copy, Debug, Default)]
+pub struct Turned {
+    pub unsettled: usize,
+    pub settled: usize,
+}
+
+impl Turned {
+    fn between(before: &[u16], after: &[Block]) -> Self {
+        let mut turned = Turned::default();
+        for (before, after) in before.iter().zip(after) {
+            match (*before == SETTLED, after.entry == SETTLED) {
+                (true, false) => turned.unsettled += 1,
+                (false, true) => turned.settled += 1,
+                _ => {}
+            }
+        }
+        turned
+    }
+}
+
+/// 02: a board's record. Its count may be untrue to the map.
+#[derive(Clone, Copy, Debug, PartialEq, Eq)]
+pub struct Record {
+    pub size: (usize, usize),
+    pub unsettled: usize,
+}
+
+impl Record {
+    /// 02: adds the blocks newly unsettled and takes away those newly settled, unless that falls below
+    /// 0 or above the number of blocks. In 128 bits nothing that is lent overflows.
+    fn follow(&mut self, turned: Turned, blocks: usize) -> Result<(), Refusal> {
+        let [lent, unsettled, settled] =
+            [self.unsettled, turned.unsettled, turned.settled].map(|count| count as i128);
+        let count = lent + unsettled - settled;
+        if !(0..=blocks as i128).contains(&count) {
+            return Err(Refusal::NoSuchCount(count, turned));
+        }
+        self.unsettled = count as usize;
+        Ok(())
+    }
+}
+
+/// 01: 1 and 2 are all that a fresh map refuses; 02: its record counts all blocks.
+pub fn fresh_map(size: (usize, usize), map: &mut [u16]) -> Result<Record, Refusal> {
+    check_map(size.0, size.1, map)?;
     for (block, entry) in map.iter_mut().enumerate() {
         *entry = block as u16;
     }
-    Ok(())
+    Ok(Record {
+        size,
+        unsettled: map.len(),
+    })
 }
 
 /// 01: how many entries are not 65,535.
@@ -134,19 +185,23 @@ pub fn count(width: usize, height: usize, map: &[u16]) -> Result<usize, Refusal>
     Ok(map.iter().filter(|entry| **entry != SETTLED).count())
 }
 
-/// Reads a chunk over the lent picture and map; gives what an accepted one has in it.
+/// Reads a chunk over the lent picture and map, with their record; gives what an accepted one has in
+/// it. 02: 21 is the last of all checks.
 pub fn read_chunk(
-    (width, height): (usize, usize),
+    record: &mut Record,
     chunk: &[u8],
     picture: &mut [u8],
     map: &mut [u16],
 ) -> Result<Reading, Refusal> {
-    check_lent((width, height), picture, map)?;
-    let reading = parse(chunk, map.len())?;
+    check_lent(record.size, picture, map)?;
+    let mut reading = parse(chunk, map.len())?;
+    let (width, _) = record.size;
     let mut blocks = cut_into_blocks(width, picture, map);
     for step in &reading.steps {
         apply(&mut blocks, step);
     }
+    reading.turned = Turned::between(map, &blocks);
+    record.follow(reading.turned, map.len())?;
     put_blocks_back(&blocks, width, picture, map);
     Ok(reading)
 }
@@ -245,8 +300,11 @@ fn parse(chunk: &[u8], blocks: usize) -> Result<Reading, Refusal> {
             command,
         });
     }
-    let padding = parser.padding()?;
-    Ok(Reading { steps, padding })
+    Ok(Reading {
+        steps,
+        padding: parser.padding()?,
+        turned: Turned::default(),
+    })
 }
 
 impl Parser<'_> {

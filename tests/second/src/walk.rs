@@ -1,10 +1,10 @@
 //! The independent second walk of the house feed, written from paper 01, "The house feed and the
 //! board program", and of a run of chunks (02, Ask 2), from nothing of ours. Each chunk goes to the
-//! second reader.
+//! second reader, with the record that the one before it left (02, Ask 5).
 //!
 //! What each chunk answered is kept, for the second listing (listing.rs) and the tally.
 
-use crate::reader::{self, At, Refusal};
+use crate::reader::{self, At, Record, Refusal};
 
 /// 01: a number above this is badly formed.
 const GREATEST: usize = 16_777_215;
@@ -47,7 +47,8 @@ impl Stop {
     }
 }
 
-/// What one chunk of the feed or run answered, and the unsettled count then.
+/// What one chunk of the feed or run answered, and what is unsettled then: by the map, counted afresh,
+/// and by the record, which was lent and may be untrue (02).
 #[derive(Debug)]
 pub struct ChunkRead {
     /// Where its first byte stands.
@@ -58,6 +59,7 @@ pub struct ChunkRead {
     /// How many bytes follow its last block, if it was accepted (02).
     pub padding: usize,
     pub unsettled: usize,
+    pub kept: usize,
 }
 
 pub struct Walk {
@@ -87,16 +89,30 @@ impl Walk {
     }
 }
 
-pub fn walk(feed: &[u8], picture: &mut [u8], map: &mut [u16]) -> Walk {
+/// 02: 2 where the feed's size is not the record's, once it has been found allowed.
+pub fn walk(record: &mut Record, feed: &[u8], picture: &mut [u8], map: &mut [u16]) -> Walk {
+    let lent = Lent {
+        record,
+        picture,
+        map,
+    };
     Walk::of(|chunks| {
         let (size, first) = size(feed)?;
-        walk_chunks(feed, first, Lent { size, picture, map }, chunks)
+        if size != lent.record.size {
+            return Err(Stop::Board(Refusal::LentLength));
+        }
+        walk_chunks(feed, first, lent, chunks)
     })
 }
 
 /// A run has no size numbers (02); its places count from its own first byte (01).
-pub fn walk_run(size: (usize, usize), run: &[u8], picture: &mut [u8], map: &mut [u16]) -> Walk {
-    Walk::of(|chunks| walk_chunks(run, 0, Lent { size, picture, map }, chunks))
+pub fn walk_run(record: &mut Record, run: &[u8], picture: &mut [u8], map: &mut [u16]) -> Walk {
+    let lent = Lent {
+        record,
+        picture,
+        map,
+    };
+    Walk::of(|chunks| walk_chunks(run, 0, lent, chunks))
 }
 
 /// The size in pixels and the place after its two numbers. 01: it is checked after both are read.
@@ -109,7 +125,7 @@ pub fn size(feed: &[u8]) -> Result<((usize, usize), usize), Stop> {
 }
 
 struct Lent<'a> {
-    size: (usize, usize),
+    record: &'a mut Record,
     picture: &'a mut [u8],
     map: &'a mut [u16],
 }
@@ -121,7 +137,7 @@ fn walk_chunks(
     mut lent: Lent,
     chunks: &mut Vec<ChunkRead>,
 ) -> Result<At, Stop> {
-    reader::check_lent(lent.size, lent.picture, lent.map).map_err(Stop::Board)?;
+    reader::check_lent(lent.record.size, lent.picture, lent.map).map_err(Stop::Board)?;
     while at < bytes.len() {
         let (length, first) = number(bytes, at, Number::ChunkLength)?;
         let rest = &bytes[first..];
@@ -137,9 +153,9 @@ fn walk_chunks(
 impl Lent<'_> {
     /// 01: read just as that chunk is read by itself; a refusal is kept and does not end the walk.
     fn read(&mut self, first: usize, chunk: &[u8]) -> Result<ChunkRead, Stop> {
-        let reading = reader::read_chunk(self.size, chunk, self.picture, self.map);
+        let reading = reader::read_chunk(self.record, chunk, self.picture, self.map);
         let (number, at) = reader::number_and_at(&reading, At::end(chunk.len(), self.map));
-        let (width, height) = self.size;
+        let (width, height) = self.record.size;
         let unsettled = reader::count(width, height, self.map).map_err(Stop::Board)?;
         Ok(ChunkRead {
             first,
@@ -148,6 +164,7 @@ impl Lent<'_> {
             at,
             padding: reading.map_or(0, |reading| reading.padding),
             unsettled,
+            kept: self.record.unsettled,
         })
     }
 }

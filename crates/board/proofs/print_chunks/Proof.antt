@@ -8,11 +8,11 @@ use Rattle.board.proofs.print_chunks.Statement.{statement}
 use Rattle.board.proofs.print_chunks.Tie as tie
 
 abbrev Inv-loop : tie.InvT-loop
-Inv-loop size feed first picture₀ map₀ at₀ chunk₀ picture map at chunk =
+Inv-loop feed first picture₀ map₀ at₀ chunk₀ kept₀ picture map at chunk kept =
     (length picture ≡ length picture₀) × (length map ≡ length map₀) × (chunk ≤ at + 1)
 
 abbrev μ-loop : tie.MeasureT-loop
-μ-loop size feed first picture₀ map₀ at₀ chunk₀ picture map at chunk = length feed - at
+μ-loop feed first picture₀ map₀ at₀ chunk₀ kept₀ picture map at chunk kept = length feed - at
 
 loop-holds : tie.Need-loop-holds Inv-loop μ-loop
 loop-holds c = (refl, refl, omega arith)
@@ -29,25 +29,45 @@ enum-known-step c = search needs
 enum-told : tie.Need-enum-told Inv-loop μ-loop
 enum-told c = search needs
 
+-- the places that the answers look back to
+abbrev at-loop : tie.After-enum-told Inv-loop μ-loop → tie.At-loop Inv-loop μ-loop
+at-loop c = c .before .before .before .before .before .before .before .before .before .before
+
+abbrev after-picture : tie.After-kept Inv-loop μ-loop → tie.After-picture Inv-loop μ-loop
+after-picture c = c .before .before .before .before .before .before .before .before
+
+abbrev at-loop₂ : tie.After-kept Inv-loop μ-loop → tie.At-loop Inv-loop μ-loop
+at-loop₂ c = after-picture c .before .before .before .before
+
 same-length : tie.Need-same-length Inv-loop μ-loop
-same-length c = c .before .before .before .before .before .before .picture .given ∙ c .before .before .before .before .before .before .before .before .before .before .loop .inv .0
+same-length c = c .before .before .before .before .before .before .picture .given ∙ at-loop c .loop .inv .0
 
 same-length-2 : tie.Need-same-length-2 Inv-loop μ-loop
-same-length-2 c = c .before .before .before .before .map .given ∙ c .before .before .before .before .before .before .before .before .before .before .loop .inv .1
+same-length-2 c = c .before .before .before .before .map .given ∙ at-loop c .loop .inv .1
 
 returns : tie.Need-returns Inv-loop μ-loop
 returns c = tt
 
 add-chunk : tie.Need-add-chunk Inv-loop μ-loop
-add-chunk c = let o = step-onward (walking-none _ _ _ _) (c .before .before .before .before .before .before .before .before .list-step .ensures .0) (c .before .step .given .1) in omega (arith, o .further, o .within, c .before .before .before .before .before .before .before .before .before .before .before .loop .inv .2)
+add-chunk c =
+    let step = after-picture c .before .list-step .ensures .0 in
+    let o = step-onward (walking-none _ _ _ _ _) step (c .before .before .step .given .1) in
+    omega (arith, o .further, o .within, at-loop₂ c .before .before .before .before .good .1 .0 .1, at-loop₂ c .loop .inv .2)
 
 loop-less : tie.Need-loop-less Inv-loop μ-loop
-loop-less c = let o = step-onward (walking-none _ _ _ _) (c .before .before .before .before .before .before .before .before .list-step .ensures .0) (c .before .step .given .1) in omega (arith, o .further, o .within)
+loop-less c =
+    let step = after-picture c .before .list-step .ensures .0 in
+    let o = step-onward (walking-none _ _ _ _ _) step (c .before .before .step .given .1) in
+    omega (arith, o .further, o .within)
 
 loop-again : tie.Need-loop-again Inv-loop μ-loop
 loop-again c =
-    let o = step-onward (walking-none _ _ _ _) (c .before .before .before .before .before .before .before .before .list-step .ensures .0) (c .before .step .given .1) in
-    (c .before .before .before .before .before .before .before .picture .given ∙ c .before .before .before .before .before .before .before .before .before .before .before .loop .inv .0, c .before .before .before .before .before .map .given ∙ c .before .before .before .before .before .before .before .before .before .before .before .loop .inv .1, omega (arith, o .further, c .before .before .before .before .before .before .before .before .before .before .before .loop .inv .2))
+    let step = after-picture c .before .list-step .ensures .0 in
+    let o = step-onward (walking-none _ _ _ _ _) step (c .before .before .step .given .1) in (
+      after-picture c .picture .given ∙ at-loop₂ c .loop .inv .0,
+      c .before .before .before .before .before .before .map .given ∙ at-loop₂ c .loop .inv .1,
+      omega (arith, o .further, at-loop₂ c .loop .inv .2),
+    )
 
 pub print-chunks-spec : {M : Type 1} → statement M
 print-chunks-spec =

@@ -9,13 +9,13 @@ use borrow.Author.Needs.{needs}
 use Rattle.spec.specs.Basics.{if}
 use Rattle.spec.specs.Maps.{settled, unsettled}
 use Rattle.spec.proofs.Cases.{cases}
-use Rattle.spec.proofs.Lists.{by-test}
+use Rattle.spec.proofs.Lists.{none-or-one}
 use Rattle.board_map.proofs.unsettled_entries.Statement.{statement}
 use Rattle.board_map.proofs.unsettled_entries.Tie as tie
 
 -- an entry counts at most 1
 at-most-one : (x : ℕ) → if (eqb x settled) 0 1 ≤ 1
-at-most-one x = by-test (λ (n : ℕ). n ≤ 1) (eqb x settled) (λ t. omega arith) (λ t. omega arith)
+at-most-one x = none-or-one (eqb x settled)
 
 abbrev Inv-loop : tie.InvT-loop
 Inv-loop map n₀ k₀ n k = (k ≤ length map) × (n ≤ k) × (n + unsettled (drop k map) ≡ unsettled map)

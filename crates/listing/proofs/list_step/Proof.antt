@@ -16,7 +16,7 @@ same-length-2 c = search needs
 
 returns : tie.Need-returns
 returns c =
-    let step = c .before .before .before .before .before .before .step .ensures in
+    let step = c .before .before .before .before .before .step .ensures in
     (step .0, (step .1 .0, (step .1 .1, c .step-line .ensures)))
 
 pub list-step-spec : {M : Type 1} → statement M

@@ -12,9 +12,6 @@ end-line-requires c κs = search needs
 enum-known-step-2 : tie.Need-enum-known-step-2
 enum-known-step-2 c = search needs
 
-count-unsettled-requires : tie.Need-count-unsettled-requires
-count-unsettled-requires c κs = search needs
-
 chunk-line-requires : tie.Need-chunk-line-requires
 chunk-line-requires c κs = search needs
 
@@ -24,7 +21,7 @@ returns c = rw (c .before .before .step .given .1) (c .end-line .ensures)
 
 returns-2 : tie.Need-returns-2
 unfolding stepLine
-returns-2 c = rw (c .before .before .before .step2 .given .1, ← c .before .count-unsettled .ensures) (c .chunk-line .ensures)
+returns-2 c = rw (c .before .before .step2 .given .1) (c .chunk-line .ensures)
 
 pub step-line-spec : {M : Type 1} → statement M
 step-line-spec =
@@ -33,7 +30,6 @@ step-line-spec =
     enum-known-step
     end-line-requires
     enum-known-step-2
-    count-unsettled-requires
     chunk-line-requires
     returns
     returns-2)

@@ -41,12 +41,17 @@ same-length c = search needs
 same-length-2 : tie.Need-same-length-2
 same-length-2 c = search needs
 
+-- the places that the answers look back to
+abbrev after-first : tie.After-slice-known4 → tie.After-first
+after-first c = c .before .before .before .before .before .before .before .before .before
+
 returns-2 : tie.Need-returns-2
 unfolding walkStep
 returns-2 c =
-    let past = c .before .before .before .before .before .before .before .before .before .first .given .0 .1 .0 in
+    let past = after-first c .first .given .0 .1 .0 in
     let read = c .before .before .before .before .read-chunk .ensures in
-    rw (← c .before .before .before .before .before .before .before .before .before .before .before .next-at .ensures, c .before .before .before .before .before .before .before .before .before .first .given .1) (ap (λ a. Step.Chunk a past) (read .0), read .1)
+    rw (← after-first c .before .before .next-at .ensures, after-first c .first .given .1)
+    ((λ i. Step.Chunk (record { answer = read .0 i; kept = read .1 .0 i }) past), read .1 .1)
 
 pub step-spec : {M : Type 1} → statement M
 step-spec =

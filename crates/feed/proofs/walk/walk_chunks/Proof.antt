@@ -6,14 +6,11 @@ use borrow.Author.Needs.{needs}
 use Rattle.feed.proofs.walk.walk_chunks.Statement.{statement}
 use Rattle.feed.proofs.walk.walk_chunks.Tie as tie
 
-board-fault-requires : tie.Need-board-fault-requires
-board-fault-requires c κs = search needs
-
 returns : tie.Need-returns
 returns c =
-    let a = c .before .before .before .before .before .args in
+    let a = c .before .before .before .before .args in
     let cs = chunksFrom (length (a .feed .now)) (a .feed .now) (a .first) in
-    let e = chunks-refused (a .size) cs (board (a .picture .now) (a .map .now)) (c .before .board-fault .ensures) (c .if1 .taken) in
+    let e = chunks-refused (a .kept .size) cs (board (a .picture .now) (a .map .now) (a .kept .unsettled)) (c .if1 .taken) in
     (rw e, (rw e, rw e))
 
 read-chunks-requires : tie.Need-read-chunks-requires
@@ -25,20 +22,18 @@ same-length c = search needs
 same-length-2 : tie.Need-same-length-2
 same-length-2 c = search needs
 
+-- the places that the answers look back to
+abbrev else1 : tie.After-slice-known4 → tie.Else1
+else1 c = c .before .before .before .before .before .before .before
+
 returns-2 : tie.Need-returns-2
 returns-2 c =
-    let a = c .before .before .before .before .before .before .before .before .before .before .before .before .args in
+    let a = else1 c .before .before .before .before .args in
     let cs = chunksFrom (length (a .feed .now)) (a .feed .now) (a .first) in
-    let e = chunks-read (a .size) cs (board (a .picture .now) (a .map .now)) (c .before .before .before .before .before .before .before .before .board-fault .ensures) (c .before .before .before .before .before .before .before .if1 .left) in
-    rw e (c .before .before .before .before .read-chunks .ensures)
+    let ok = else1 c .if1 .left in
+    rw (chunks-read (a .kept .size) cs (board (a .picture .now) (a .map .now) (a .kept .unsettled)) ok)
+    (c .before .before .before .before .read-chunks .ensures)
 
 pub walk-chunks-spec : {M : Type 1} → statement M
 walk-chunks-spec =
-    tie.close
-    (tie.spec
-    board-fault-requires
-    returns
-    read-chunks-requires
-    same-length
-    same-length-2
-    returns-2)
+    tie.close (tie.spec returns read-chunks-requires same-length same-length-2 returns-2)

@@ -3,6 +3,9 @@ use borrow.Author.Needs.{needs}
 use Rattle.feed.proofs.walk.walk_run.Statement.{statement}
 use Rattle.feed.proofs.walk.walk_run.Tie as tie
 
+board-fault-requires : tie.Need-board-fault-requires
+board-fault-requires c κs = search needs
+
 walk-chunks-requires : tie.Need-walk-chunks-requires
 walk-chunks-requires c κs = search needs
 
@@ -14,7 +17,7 @@ same-length-2 c = search needs
 
 returns : tie.Need-returns
 unfolding walkRun
-returns c = c .before .before .before .before .walk-chunks .ensures
+returns c = rw (← c .before .before .before .before .before .before .before .board-fault .ensures) (c .before .before .before .before .walk-chunks .ensures)
 
 pub walk-run-spec : {M : Type 1} → statement M
-walk-run-spec = tie.close (tie.spec walk-chunks-requires same-length same-length-2 returns)
+walk-run-spec = tie.close (tie.spec board-fault-requires walk-chunks-requires same-length same-length-2 returns)

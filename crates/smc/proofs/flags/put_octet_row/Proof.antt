@@ -48,7 +48,8 @@ same-length c = search needs
 returns : tie.Need-returns
 returns c =
     let a = c .before .before .before .before .before .before .before .before .before .before .args in
-    c .before .before .put-four .ensures ∙ ap (λ (is : List ℕ). sets (a .pic .now) (a .p) (chosen is (a .t .now))) (octet-row (a .f) (a .g) (omega arith) (omega arith))
+    c .before .before .put-four .ensures
+    ∙ ap (λ (is : List ℕ). sets (a .pic .now) (a .p) (chosen is (a .t .now))) (octet-row (a .f) (a .g) (omega arith) (omega arith))
 
 pub put-octet-row-spec : {M : Type 1} → statement M
 put-octet-row-spec =

@@ -38,7 +38,8 @@ loop-less c = search needs
 loop-again : tie.Need-loop-again Inv-loop μ-loop
 loop-again c =
     let g = c .before .before .before .before .before .before .before .before .loop .inv in
-    running-more _ _ _ _ _ _ _ _ _ _ _ g (omega arith) _ refl _ _ (c .before .before .before .before .copy-block .ensures .0) (c .before .before .before .before .copy-block .ensures .1)
+    running-more _ _ _ _ _ _ _ _ _ _ _ g (omega arith) _ refl _ _ (c .before .before .before .before .copy-block .ensures .0)
+    (c .before .before .before .before .copy-block .ensures .1)
 
 same-length : tie.Need-same-length Inv-loop μ-loop
 same-length c = c .before .loop .inv .same

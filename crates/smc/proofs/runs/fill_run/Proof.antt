@@ -16,8 +16,15 @@ abbrev μ-loop : tie.MeasureT-loop
 word-requires : tie.Need-word-requires Inv-loop μ-loop
 word-requires c κs = search needs
 
+-- the places that the answers look back to
+abbrev start : tie.After-word Inv-loop μ-loop → tie.Start Inv-loop μ-loop
+start c = c .before .before .before
+
+abbrev at-loop : tie.After-slice-known4 Inv-loop μ-loop → tie.At-loop Inv-loop μ-loop
+at-loop c = c .before .before .before .before .before .before .before .before
+
 loop-holds : tie.Need-loop-holds Inv-loop μ-loop
-loop-holds c = running-none _ _ _ _ _ _ _ _ (c .before .before .before .pre .0) (c .before .before .before .pre .1 .1)
+loop-holds c = running-none _ _ _ _ _ _ _ _ (start c .pre .0) (start c .pre .1 .1)
 
 add-settle : tie.Need-add-settle Inv-loop μ-loop
 add-settle c = search needs
@@ -35,16 +42,17 @@ loop-less c = search needs
 
 loop-again : tie.Need-loop-again Inv-loop μ-loop
 loop-again c =
-    let a = c .before .before .before .before .before .before .before .before .before .before .before .before .args in
-    let g = c .before .before .before .before .before .before .before .before .loop .inv in
-    let px = fill-pixels (a .colour) _ _ (c .before .before .before .before .before .before .before .before .before .word .ensures) refl in
-    running-more _ _ _ _ _ _ _ _ _ _ _ g (omega arith) _ px _ _ (c .before .before .before .before .settle .ensures .0) (c .before .before .before .before .settle .ensures .1)
+    let a = start (at-loop c .before) .args in
+    let g = at-loop c .loop .inv in
+    let px = fill-pixels (a .colour) _ _ (at-loop c .before .word .ensures) refl in
+    running-more _ _ _ _ _ _ _ _ _ _ _ g (omega arith) _ px _ _ (c .before .before .before .before .settle .ensures .0)
+    (c .before .before .before .before .settle .ensures .1)
 
 same-length : tie.Need-same-length Inv-loop μ-loop
 same-length c = c .before .loop .inv .same
 
 same-length-2 : tie.Need-same-length-2 Inv-loop μ-loop
-same-length-2 c = c .before .loop .inv .entries ∙ sym (c .before .before .before .before .before .pre .1 .1)
+same-length-2 c = c .before .loop .inv .entries ∙ sym (start (c .before .before) .pre .1 .1)
 
 returns : tie.Need-returns Inv-loop μ-loop
 returns c =

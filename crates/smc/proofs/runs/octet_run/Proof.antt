@@ -16,8 +16,18 @@ Inv-loop pic₀ map₀ c r k n t s at i₀ pic map i = Putting c r k n (λ j. ch
 abbrev μ-loop : tie.MeasureT-loop
 μ-loop pic₀ map₀ c r k n t s at i₀ pic map i = n - i
 
+-- the places that the answers look back to
+abbrev start : tie.After-shared-slice-known2 Inv-loop μ-loop → tie.Start Inv-loop μ-loop
+start c = c .before .before .before .before
+
+abbrev at-loop : tie.After-shared-slice-known8 Inv-loop μ-loop → tie.At-loop Inv-loop μ-loop
+at-loop c = c .before .before .before .before .before .before .before .before
+
+abbrev at-loop₂ : tie.After-slice-known3 Inv-loop μ-loop → tie.At-loop Inv-loop μ-loop
+at-loop₂ c = at-loop (c .before .before .before)
+
 loop-holds : tie.Need-loop-holds Inv-loop μ-loop
-loop-holds c = running-none _ _ _ _ _ _ _ _ (c .before .before .before .before .pre .0) (c .before .before .before .before .pre .1 .1 .0)
+loop-holds c = running-none _ _ _ _ _ _ _ _ (start c .pre .0) (start c .pre .1 .1 .0)
 
 mul-q : tie.Need-mul-q Inv-loop μ-loop
 mul-q c = search needs
@@ -63,8 +73,8 @@ shared-slice-read-put-octet-6 c = search needs
 
 put-octet-requires : tie.Need-put-octet-requires Inv-loop μ-loop
 put-octet-requires c κs =
-    let g = c .before .before .before .before .before .before .before .before .loop .inv in
-    (g .canvas, (omega arith, c .before .before .before .before .before .before .before .before .before .before .before .before .before .pre .1 .1 .1 .1))
+    let g = at-loop c .loop .inv in
+    (g .canvas, (omega arith, start (at-loop c .before) .pre .1 .1 .1 .1))
 
 add-map : tie.Need-add-map Inv-loop μ-loop
 add-map c = search needs
@@ -83,9 +93,9 @@ loop-less c = search needs
 
 loop-again : tie.Need-loop-again Inv-loop μ-loop
 loop-again c =
-    let a = c .before .before .before .before .before .before .before .before .before .before .before .before .before .before .before .before .args in
-    let g = c .before .before .before .before .before .before .before .before .before .before .before .loop .inv in
-    let q = a .at + 6 * c .before .before .before .before .before .before .before .before .before .before .before .loop .i in
+    let a = start (at-loop₂ c .before) .args in
+    let g = at-loop₂ c .loop .inv in
+    let q = a .at + 6 * at-loop₂ c .loop .i in
     let px = ap (λ (bs : List ℕ). chosen (flags 3 bs) (a .t .now)) (six-bytes (a .s .now) q (omega arith)) in
     running-more _ _ _ _ _ _ _ _ _ _ _ g (omega arith) _ px _ _ (c .before .before .put-octet .ensures) refl
 
@@ -93,7 +103,7 @@ same-length : tie.Need-same-length Inv-loop μ-loop
 same-length c = c .before .loop .inv .same
 
 same-length-2 : tie.Need-same-length-2 Inv-loop μ-loop
-same-length-2 c = c .before .loop .inv .entries ∙ sym (c .before .before .before .before .before .before .pre .1 .1 .0)
+same-length-2 c = c .before .loop .inv .entries ∙ sym (start (c .before .before) .pre .1 .1 .0)
 
 returns : tie.Need-returns Inv-loop μ-loop
 returns c =

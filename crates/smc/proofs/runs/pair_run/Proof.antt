@@ -23,8 +23,15 @@ shared-slice-read-c0 c = search needs
 shared-slice-read-c1 : tie.Need-shared-slice-read-c1 Inv-loop μ-loop
 shared-slice-read-c1 c = search needs
 
+-- the places that the answers look back to
+abbrev start : tie.After-shared-slice-known4 Inv-loop μ-loop → tie.Start Inv-loop μ-loop
+start c = c .before .before .before .before .before .before
+
+abbrev at-loop : tie.After-slice-known4 Inv-loop μ-loop → tie.At-loop Inv-loop μ-loop
+at-loop c = c .before .before .before .before .before .before .before .before .before .before .before
+
 loop-holds : tie.Need-loop-holds Inv-loop μ-loop
-loop-holds c = running-none _ _ _ _ _ _ _ _ (c .before .before .before .before .before .before .pre .0) (c .before .before .before .before .before .before .pre .1 .1 .0)
+loop-holds c = running-none _ _ _ _ _ _ _ _ (start c .pre .0) (start c .pre .1 .1 .0)
 
 mul-q : tie.Need-mul-q Inv-loop μ-loop
 mul-q c = search needs
@@ -60,20 +67,21 @@ loop-less c = search needs
 
 loop-again : tie.Need-loop-again Inv-loop μ-loop
 loop-again c =
-    let a = c .before .before .before .before .before .before .before .before .before .before .before .before .before .before .before .before .before .before .args in
-    let g = c .before .before .before .before .before .before .before .before .before .before .before .loop .inv in
-    let q = a .at + 2 * c .before .before .before .before .before .before .before .before .before .before .before .loop .i in
+    let a = start (at-loop c .before) .args in
+    let g = at-loop c .loop .inv in
+    let q = a .at + 2 * at-loop c .loop .i in
     let px =
     c .before .before .before .before .before .before .before .pair-rows .ensures
     ∙ ap (λ (bs : List ℕ). chosen (flags 1 bs) (getD (a .t .now) 0 0 ∷ getD (a .t .now) 1 0 ∷ [])) (two-bytes (a .s .now) q (omega arith))
-    ∙ ap (λ (cs : List ℕ). chosen (flags 1 (part (a .s .now) q 2)) cs) (two-colours (a .t .now) (c .before .before .before .before .before .before .before .before .before .before .before .before .before .before .before .before .before .before .pre .1 .1 .1 .1 .0)) in
-    running-more _ _ _ _ _ _ _ _ _ _ _ g (omega arith) _ px _ _ (c .before .before .before .before .settle .ensures .0) (c .before .before .before .before .settle .ensures .1)
+    ∙ ap (λ (cs : List ℕ). chosen (flags 1 (part (a .s .now) q 2)) cs) (two-colours (a .t .now) (start (at-loop c .before) .pre .1 .1 .1 .1 .0)) in
+    running-more _ _ _ _ _ _ _ _ _ _ _ g (omega arith) _ px _ _ (c .before .before .before .before .settle .ensures .0)
+    (c .before .before .before .before .settle .ensures .1)
 
 same-length : tie.Need-same-length Inv-loop μ-loop
 same-length c = c .before .loop .inv .same
 
 same-length-2 : tie.Need-same-length-2 Inv-loop μ-loop
-same-length-2 c = c .before .loop .inv .entries ∙ sym (c .before .before .before .before .before .before .before .before .pre .1 .1 .0)
+same-length-2 c = c .before .loop .inv .entries ∙ sym (start (c .before .before) .pre .1 .1 .0)
 
 returns : tie.Need-returns Inv-loop μ-loop
 returns c =

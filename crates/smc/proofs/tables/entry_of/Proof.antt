@@ -11,8 +11,15 @@ store-requires c κs =
     let p = c .before .before .before .before .pre in
     (p .0, (p .1 .0, p .1 .1 .1 (c .before .if1 .taken)))
 
+-- the places that the answers look back to
+abbrev start : tie.After-slice-known2 → tie.Start
+start c = c .before .before .before .before .before .before .before
+
+abbrev start₂ : tie.After-wide → tie.Start
+start₂ c = c .before .before .before .before .before
+
 mul-t13 : tie.Need-mul-t13
-mul-t13 c = omega (arith, entry-room (c .before .before .before .before .before .before .before .args .w) (c .before .before .before .before .before .before .before .args .next) capacity (omega arith))
+mul-t13 c = omega (arith, entry-room (start c .args .w) (start c .args .next) capacity (omega arith))
 
 add-t14 : tie.Need-add-t14
 add-t14 c = search needs
@@ -22,7 +29,7 @@ same-length c = search needs
 
 returns : tie.Need-returns
 returns c =
-    let a = c .before .before .before .before .before .before .before .args in
+    let a = start c .args in
     let e = c .before .before .store .ensures in
     record {
       stored = λ q. (e .0, refl, refl, e .1);
@@ -38,7 +45,7 @@ wide-requires c κs = search needs
 
 mul-t18 : tie.Need-mul-t18
 mul-t18 c =
-    let a = c .before .before .before .before .before .args in
+    let a = start₂ c .args in
     omega (arith, entry-room (a .w) (c .wide .result) capacity (c .wide .ensures .1))
 
 add-t19 : tie.Need-add-t19
@@ -46,7 +53,7 @@ add-t19 c = search needs
 
 returns-2 : tie.Need-returns-2
 returns-2 c =
-    let a = c .before .before .before .before .before .args in
+    let a = start₂ c .args in
     let w = c .wide .ensures in
     record {
       stored = λ q. absurd (c .before .before .if1 .left q);

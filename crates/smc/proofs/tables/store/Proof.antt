@@ -44,8 +44,14 @@ loop-less c = search needs
 loop-again : tie.Need-loop-again Inv-loop μ-loop
 loop-again c =
     let a = c .before .before .before .before .before .args in
-    let g = c .before .before .loop .inv in
-    (omega arith, g .1, g .2, rw length-set (g .3), sets-step (a .t .now) _ (a .s .now) (a .w * a .next) (a .q) (c .before .before .loop .i) (omega arith) (g .4))
+    let g = c .before .before .loop .inv in (
+      omega arith,
+      g .1,
+      g .2,
+      rw length-set (g .3),
+      sets-step (a .t .now) _ (a .s .now) (a .w * a .next) (a .q) (c .before .before .loop .i) (omega arith)
+          (g .4),
+    )
 
 wrapping-add-u8-requires : tie.Need-wrapping-add-u8-requires Inv-loop μ-loop
 wrapping-add-u8-requires c κs = search needs
