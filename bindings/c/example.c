@@ -1,7 +1,9 @@
 /* Gets a picture out of chunks, shows how many blocks cannot be trusted, writes a chunk of its own, walks a feed and a
- * run, and paints a symbol. Picture, map and record are kept together: whatever reads chunks is lent all three.
+ * run, makes a board for a feed and goes through that step by step, and paints a symbol. Picture, map and record are kept
+ * together: whatever reads chunks is lent all three.
  * cc example.c libseatboard.a -o example && ./example */
 #include <stdio.h>
+#include <stdlib.h>
 #include <string.h>
 
 #include "seatboard.h"
@@ -42,6 +44,35 @@ static void walk_run(struct seatboard_record record, uint8_t *picture, uint16_t 
     struct seatboard_tally tally = seatboard_walk_run(record, run, sizeof run, picture, PIXELS, map, BLOCKS);
     show("walk run", tally.answer);
     printf("accepted: %zu, unsettled: %zu\n", tally.accepted, tally.record.unsettled);
+}
+
+/* A board for a feed whose size is not known before, and the feed's chunks one by one. The second one is refused; the
+ * step behind the last one says how the walk ends. */
+static void walk_by_steps(void)
+{
+    const uint8_t feed[] = {2, 1,
+                            6, 0xE1, 0, 0, 6, 0x00, 0x20,
+                            4, 0xE1, 0, 0, 4,
+                            6, 0xE1, 0, 0, 6, 0x61, 5};
+    struct seatboard_feed_size own = seatboard_feed_size(feed, sizeof feed);
+    show("feed size", own.answer);
+    printf("width: %zu, height: %zu, first chunk: %zu\n", own.size.width, own.size.height, own.first);
+
+    /* refused, the size is 0 by 0, and each step would be refused too */
+    size_t pixels = SEATBOARD_PIXELS(own.size.width, own.size.height);
+    size_t blocks = SEATBOARD_BLOCKS(own.size.width, own.size.height);
+    uint8_t *picture = calloc(pixels, sizeof *picture);
+    uint16_t *map = calloc(blocks, sizeof *map);
+    if (picture && map) {
+        struct seatboard_step step = {.record = seatboard_fresh_map(own.size, map, blocks).record, .next = own.first};
+        do {
+            step = seatboard_walk_step(step.record, feed, sizeof feed, step.next, picture, pixels, map, blocks);
+            show(step.chunk ? "step" : "end", step.answer);
+            printf("unsettled: %zu, next: %zu\n", step.record.unsettled, step.next);
+        } while (step.chunk);
+    }
+    free(map);
+    free(picture);
 }
 
 /* A record that nobody has kept: all blocks are settled, and it says that one more than all of them is not. The chunk
@@ -101,6 +132,7 @@ int main(void)
     const uint8_t feed[] = {2, 2, 6, 0xE1, 0, 0, 6, 0x63, 4};
     record = kept("walk feed", seatboard_walk_feed(record, feed, sizeof feed, picture, PIXELS, map, BLOCKS));
     walk_run(record, picture, map);
+    walk_by_steps();
     lend_untrue_record(picture, map);
     paint_symbol(picture);
     return 0;

@@ -1,8 +1,8 @@
 /*
  * seatboard.h - the proved picture codec of the seat boards: SMC chunks read and written, the map that says which blocks
  * of a picture can be trusted and the record that keeps how many cannot, the walk of the house feed and of a run of
- * chunks, and seat symbols painted on a shown picture. Link with libseatboard.a. For x86-64 Linux, C99 or C++, GCC or
- * Clang.
+ * chunks, at once or step by step, and seat symbols painted on a shown picture. Link with libseatboard.a. For x86-64
+ * Linux, C99 or C++, GCC or Clang.
  *
  * What the library promises
  *   Whatever bytes and lengths it is lent, every call comes back with one of the numbers below. It reads and writes
@@ -39,6 +39,7 @@
 #ifndef SEATBOARD_H
 #define SEATBOARD_H
 
+#include <stdbool.h>
 #include <stddef.h>
 #include <stdint.h>
 
@@ -46,8 +47,9 @@
 extern "C" {
 #endif
 
-/* The number of this interface: it is raised where a function or a struct changes. The library's symbols have it in their
- * names, so that a program built by the header of another interface does not link. */
+/* The number of this interface: it is raised where a function or a struct changes, and stays where functions are added.
+ * The library's symbols have it in their names, so that a program built by the header of another interface does not
+ * link. */
 #define SEATBOARD_INTERFACE 2
 #define SEATBOARD_QUOTED(number) #number
 #define SEATBOARD_NAMED(number, name) __asm__("seatboard_v" SEATBOARD_QUOTED(number) "_" name)
@@ -72,10 +74,11 @@ extern "C" {
  * Padding, one to three bytes after a chunk's last block that are all zero, is accepted. It counts in the length that the
  * chunk states, in the one that a feed or run has before it, and in the place of 0.
  * The block that comes with each: the number of blocks for 0 and 11; for 5 to 10 the first block still waiting at that
- * place, which is how many had their turn before it; 0 for the others, and for fresh map, count and symbol. */
+ * place, which is how many had their turn before it; 0 for the others, and for fresh map, count, feed size and symbol.
+ * A step of a walk answers as the chunk that it reads, or as the walk itself. */
 enum {
     SEATBOARD_OK = 0,              /* accepted; the place is the length of the chunk, feed or run read, padding included,
-                                      or of the chunk written, and 0 for fresh map, count and symbol */
+                                      or of the chunk written, and 0 for fresh map, count, feed size and symbol */
     SEATBOARD_BAD_SIZE = 1,        /* width or height not allowed; 0 */
     SEATBOARD_BAD_LENGTH = 2,      /* a lent picture or map is not of the exact length, or a feed's size is not the
                                       record's; 0 */
@@ -136,6 +139,19 @@ struct seatboard_tally {
     struct seatboard_record record; /* as it is after the call */
 };
 
+struct seatboard_feed_size {
+    struct seatboard_answer answer;
+    struct seatboard_size size; /* 0 by 0 where the answer is not 0 */
+    size_t first; /* where the first chunk's length stands, behind the size numbers; 0 where the answer is not 0 */
+};
+
+struct seatboard_step {
+    struct seatboard_answer answer; /* the chunk's or, where there was none, the walk's own */
+    struct seatboard_record record; /* as it is after the call */
+    bool chunk;                     /* was a chunk read? */
+    size_t next;                    /* the place behind the chunk or, where there was none, the one that was lent */
+};
+
 /* Makes a fresh map: entry k is k; and gives its record: the size and the number of blocks. Answers 0, 1 or 2; on 1 and 2
  * the record has the lent size and count 0. */
 struct seatboard_recorded seatboard_fresh_map(struct seatboard_size size, uint16_t *map, size_t map_length)
@@ -158,6 +174,10 @@ struct seatboard_answer seatboard_write_chunk(struct seatboard_size size, const 
                                               const uint8_t *new_picture, size_t new_length, uint8_t *output,
                                               size_t output_length) SEATBOARD_SYMBOL("write_chunk");
 
+/* Tells a feed's size, so that picture and map can be made for it, and where its first chunk's length stands. Answers 0,
+ * 1, 12 or 13: 12 and 13 at the size number that fails, and 1, once both are read, for a size that is not allowed. */
+struct seatboard_feed_size seatboard_feed_size(const uint8_t *feed, size_t feed_length) SEATBOARD_SYMBOL("feed_size");
+
 /* Walks a feed, which begins with its size, over a picture and its map: each chunk in turn, as by seatboard_read_chunk,
  * with the record that the one before it left. A refused chunk, by 21 too, changes nothing and does not end the walk.
  * Answers 0, 1, 2, 12 or 13: 1 is for the feed's own size, and 2 also for one that is not the record's. A walk that ends
@@ -173,6 +193,18 @@ struct seatboard_recorded seatboard_walk_feed(struct seatboard_record record, co
 struct seatboard_tally seatboard_walk_run(struct seatboard_record record, const uint8_t *run, size_t run_length,
                                           uint8_t *picture, size_t picture_length, uint16_t *map, size_t map_length)
     SEATBOARD_SYMBOL("walk_run");
+
+/* One step of a walk: reads the chunk whose length stands at a place of a feed or run, as by seatboard_read_chunk. To walk
+ * by steps, begin at the place that seatboard_feed_size gave, or at 0 in a run, and go on at `next`, with the record that
+ * came with it, until no chunk is read: each chunk has its answer then, the last one is the walk's own, and picture, map
+ * and record are what the walk leaves. A step reads no size numbers: that a feed's size is the record's is for the caller
+ * to see to.
+ * With a chunk it answers 0, 3 to 11 or 21, and a refused one changes nothing. With none it answers 0, 1, 2, 12 or 13,
+ * and changes nothing: 1 and 2 by the lent record and lengths, before the place is looked at; 0, at the feed's or run's
+ * length, for any place from there on. */
+struct seatboard_step seatboard_walk_step(struct seatboard_record record, const uint8_t *feed, size_t feed_length,
+                                          size_t at, uint8_t *picture, size_t picture_length, uint16_t *map,
+                                          size_t map_length) SEATBOARD_SYMBOL("walk_step");
 
 /* Paints a frame of an SPR# file, numbered from 0, on a shown picture. The frame's upper left pixel falls on column
  * left, row top, which may lie off the picture; pixels off it are dropped, and background leaves the picture's pixel.

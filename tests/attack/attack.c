@@ -7,6 +7,7 @@
  *     any call that is ODD   a size and lengths that need not be allowed: see odd_board
  *     any that is UNTRUE     a byte for the record's count: see untrue_count. It stays as the call leaves it
  *     READ, WALK, RUN        a length, two bytes, lowest first, and as many bytes
+ *     WALK, RUN by STEP      before these a byte for the place: see odd_place
  *     WRITE                  the output's room and the new picture: see write_call
  *     NUMBERS                a length and bytes, which become the map, over and over
  *     PAINT                  left and top, two bytes each, a frame, and a length and bytes: see paint_call
@@ -28,6 +29,7 @@ enum {
     HEAD = 32,    /* the symbol file gets a head */
     CLOSE = 64,   /* the chunk is made one that is accepted */
     HIGHEST = 64, /* that head has its highest bytes first */
+    STEP = 64,    /* of the feed or run one step is taken */
     UNTRUE = 128
 };
 
@@ -153,20 +155,27 @@ static void state_lengths(uint8_t *run, size_t length)
         state_length(run + at, chunk);
 }
 
-static void walk_call(struct input *in, unsigned how)
+/* The last eight are about the end, and far past it. */
+static size_t odd_place(unsigned kind, size_t length)
 {
-    size_t start = how & REPAIR ? put_size(&board, bytes) : 0, length = next_bytes(in, bytes + start);
-    if (how & REPAIR)
-        state_lengths(bytes + start, length);
-    try_walk(&board, bytes, start + length);
+    const size_t places[] = {length - 1, length, length + 1, BIT(16), BIT(32), BIT(63) + 2, SIZE_MAX - 1, SIZE_MAX};
+    return kind < 248 ? kind : places[kind - 248];
 }
 
-static void run_call(struct input *in, unsigned how)
+/* A feed, which gets its size numbers where it is repaired, or a run. */
+static void walk_call(struct input *in, unsigned how)
 {
-    size_t length = next_bytes(in, bytes);
+    bool feed = (how & CALL) == WALK;
+    unsigned place = how & STEP ? next(in) : 0;
+    size_t start = feed && how & REPAIR ? put_size(&board, bytes) : 0, length = start + next_bytes(in, bytes + start);
     if (how & REPAIR)
-        state_lengths(bytes, length);
-    try_run(&board, bytes, length);
+        state_lengths(bytes + start, length - start);
+    if (how & STEP)
+        try_step(&board, bytes, length, odd_place(place, length));
+    else if (feed)
+        try_walk(&board, bytes, length);
+    else
+        try_run(&board, bytes, length);
 }
 
 /* ---- pictures and maps ---- */
@@ -255,11 +264,11 @@ static void one_call(struct input *in)
     case FRESH_MAP: try_fresh_map(&board); break;
     case COUNT: try_count(&board); break;
     case NUMBERS: numbers_call(in); break;
-    case WALK: walk_call(in, how); break;
+    case WALK:
+    case RUN: walk_call(in, how); break;
     case WRITE: write_call(in, how); break;
     case READ: read_call(in, how); break;
     case PAINT: paint_call(in, how); break;
-    case RUN: run_call(in, how); break;
     }
     board.size = size;
     board.pixels = pixels;

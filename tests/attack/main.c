@@ -77,6 +77,8 @@ static void from_generator(uint64_t first, uint64_t count)
     }
     printf("%zu seeds and %llu made inputs\n", seeds, (unsigned long long)count);
     printf("21, the count below 0: %zu\n21, the count above the number of blocks: %zu\n", fallen_below, risen_above);
+    printf("sizes told: %zu\nsizes refused: %zu\n", sizes_told, sizes_refused);
+    printf("steps with a chunk: %zu\nsteps without: %zu\n", steps_read, steps_ended);
 }
 
 static int write_seeds(const char *folder)

@@ -16,8 +16,10 @@ typedef struct seatboard_answer Answer;
 typedef struct seatboard_record Record;
 typedef struct seatboard_recorded Recorded;
 typedef struct seatboard_tally Tally;
+typedef struct seatboard_feed_size FeedSize;
+typedef struct seatboard_step Step;
 
-size_t fallen_below, risen_above;
+size_t fallen_below, risen_above, sizes_told, sizes_refused, steps_read, steps_ended;
 
 static struct board start, twin; /* the board that a call is given, and another to try the like on */
 static struct board bare;        /* what a chunk without padding leaves */
@@ -466,49 +468,136 @@ unsigned number_at(const uint8_t *bytes, size_t length, size_t *at, size_t *valu
     return SEATBOARD_BAD_VARINT;
 }
 
-/* Lengths and chunks from a place on, in the header's words, each chunk by seatboard_read_chunk with the record that
- * the one before it left; and how many of them are accepted. */
-static Answer chunks_by_hand(struct board *board, const uint8_t *bytes, size_t length, size_t at, size_t *accepted)
+/* What stands at a place, in the header's words: a chunk, which is read by seatboard_read_chunk, or the end. */
+static Step step_by_hand(struct board *board, const uint8_t *bytes, size_t length, size_t at)
 {
-    size_t chunk = 0;
-    *accepted = 0;
-    if (board_refusal(board))
-        return answered(board_refusal(board), 0, 0);
-    for (; at < length; at += chunk) {
-        size_t number_from = at;
-        unsigned fault = number_at(bytes, length, &at, &chunk);
-        if (fault)
-            return answered(fault, number_from, 0);
-        if (chunk > length - at)
-            return answered(SEATBOARD_FEED_CUT, at, 0);
-        *accepted += read_bare(board, bytes + at, chunk).number == 0;
+    Step end = {answered(0, length, board->blocks), record_of(board), false, at};
+    size_t first = at, chunk = 0;
+    unsigned fault = board_refusal(board);
+    if (fault) {
+        end.answer = answered(fault, 0, 0);
+        return end;
     }
-    return answered(0, length, board->blocks);
+    if (at >= length)
+        return end;
+    fault = number_at(bytes, length, &first, &chunk);
+    if (fault || chunk > length - first) {
+        end.answer = fault ? answered(fault, at, 0) : answered(SEATBOARD_FEED_CUT, first, 0);
+        return end;
+    }
+    Answer said = read_bare(board, bytes + first, chunk);
+    return (Step){said, record_of(board), true, first + chunk};
 }
 
-/* A feed: its size, which must be the record's, and the rest. */
-static Answer walk_by_hand(struct board *board, const uint8_t *feed, size_t length)
+/* Lengths and chunks from a place on, each chunk with the record that the one before it left; and how many of them are
+ * accepted. */
+static Answer chunks_by_hand(struct board *board, const uint8_t *bytes, size_t length, size_t at, size_t *accepted)
+{
+    Step step = step_by_hand(board, bytes, length, at);
+    for (*accepted = 0; step.chunk; step = step_by_hand(board, bytes, length, step.next))
+        *accepted += step.answer.number == 0;
+    return step.answer;
+}
+
+static FeedSize size_by_hand(const uint8_t *feed, size_t length)
 {
     size_t at = 0, number_from = 0, sides[2] = {0, 0};
     for (int side = 0; side < 2; side++, number_from = at) {
         unsigned fault = number_at(feed, length, &at, &sides[side]);
         if (fault)
-            return answered(fault, number_from, 0);
+            return (FeedSize){answered(fault, number_from, 0), {0, 0}, 0};
     }
     const struct seatboard_size size = {4 * sides[0], 4 * sides[1]};
     if (!allowed(size))
-        return answered(SEATBOARD_BAD_SIZE, 0, 0);
-    if (!same_size(size, board->size))
+        return (FeedSize){answered(SEATBOARD_BAD_SIZE, 0, 0), {0, 0}, 0};
+    return (FeedSize){answered(0, 0, 0), size, at};
+}
+
+/* A feed: its size, which must be the record's, and the rest. */
+static Answer walk_by_hand(struct board *board, const uint8_t *feed, size_t length)
+{
+    const FeedSize own = size_by_hand(feed, length);
+    if (own.answer.number != 0)
+        return own.answer;
+    if (!same_size(own.size, board->size))
         return answered(SEATBOARD_BAD_LENGTH, 0, 0);
     size_t accepted;
-    return chunks_by_hand(board, feed, length, at, &accepted);
+    return chunks_by_hand(board, feed, length, own.first, &accepted);
+}
+
+static FeedSize call_feed_size(const uint8_t *feed, size_t length)
+{
+    struct loan bytes = lend_const(CHUNK, feed, length);
+    FeedSize said = seatboard_feed_size(bytes.lent, length);
+    PROMISE(loan_kept(&bytes, 0));
+    loan_end(&bytes, NULL);
+    return said;
+}
+
+static FeedSize promise_size(const uint8_t *feed, size_t length)
+{
+    const FeedSize said = call_feed_size(feed, length), by_hand = size_by_hand(feed, length);
+    PROMISE(same_answer(said.answer, by_hand.answer));
+    PROMISE(same_size(said.size, by_hand.size) && said.first == by_hand.first);
+    sizes_told += said.answer.number == 0;
+    sizes_refused += said.answer.number != 0;
+    return said;
+}
+
+static Step call_step(struct board *board, const uint8_t *bytes, size_t length, size_t at)
+{
+    struct loans l = lend_all(board, bytes, length);
+    Step said = seatboard_walk_step(record_of(board), l.bytes.lent, length, at, l.picture.lent, board->pixels,
+                                    entries(&l.map), board->blocks);
+    take_back(&l, board, said.chunk && said.answer.number == 0, said.record);
+    return said;
+}
+
+static bool same_step(Step a, Step b)
+{
+    return same_answer(a.answer, b.answer) && same_record(a.record, b.record) && a.chunk == b.chunk && a.next == b.next;
+}
+
+void try_step(struct board *board, const uint8_t *bytes, size_t length, size_t at)
+{
+    copy_board(&start, board);
+    copy_board(&twin, board);
+    Step by_hand = step_by_hand(&twin, bytes, length, at), said = call_step(board, bytes, length, at);
+    PROMISE(same_step(said, by_hand) && same_board(board, &twin));
+    steps_read += said.chunk;
+    steps_ended += !said.chunk;
+
+    lend_early = !lend_early; /* the same bytes at other addresses */
+    copy_board(&twin, &start);
+    PROMISE(same_step(call_step(&twin, bytes, length, at), said) && same_board(&twin, board));
+}
+
+/* What was walked from a place on does the same step by step; and how many chunks are accepted so. */
+static size_t promise_steps(const struct board *board, Answer said, const uint8_t *bytes, size_t length, size_t at)
+{
+    copy_board(&twin, &start);
+    size_t accepted = 0;
+    Step step = call_step(&twin, bytes, length, at);
+    for (; step.chunk; step = call_step(&twin, bytes, length, at)) {
+        PROMISE(at < step.next && step.next <= length);
+        accepted += step.answer.number == 0;
+        at = step.next;
+    }
+    PROMISE(same_answer(step.answer, said) && step.next == at && same_board(&twin, board));
+    return accepted;
 }
 
 void try_walk(struct board *board, const uint8_t *feed, size_t length)
 {
+    copy_board(&start, board);
     copy_board(&twin, board);
-    Answer by_hand = walk_by_hand(&twin, feed, length);
-    PROMISE(same_answer(call_walk(board, feed, length), by_hand) && same_board(board, &twin));
+    Answer by_hand = walk_by_hand(&twin, feed, length), said = call_walk(board, feed, length);
+    PROMISE(same_answer(said, by_hand) && same_board(board, &twin));
+
+    lend_early = !lend_early;
+    const FeedSize own = promise_size(feed, length);
+    if (own.answer.number == 0 && same_size(own.size, board->size))
+        promise_steps(board, said, feed, length, own.first);
 }
 
 static Tally call_run(struct board *board, const uint8_t *run, size_t length)
@@ -549,6 +638,7 @@ void try_run(struct board *board, const uint8_t *run, size_t length)
     lend_early = !lend_early; /* the same bytes at other addresses */
     copy_board(&twin, &start);
     PROMISE(same_tally(call_run(&twin, run, length), said) && same_board(&twin, board));
+    PROMISE(promise_steps(board, said.answer, run, length, 0) == said.accepted);
     if (allowed(board->size))
         promise_feed(board, said.answer, run, length);
 }
@@ -784,6 +874,9 @@ void try_longest_chunks(void)
         PROMISE(same_answer(said.answer, answered(0, bound + 5, 1)) && same_record(said.record, record));
         Tally ran = seatboard_walk_run(record, feed + 2, bound + 3, pixels, 16, map, 1);
         PROMISE(same_tally(ran, (Tally){answered(0, bound + 3, 1), 0, record}));
+        Step step = seatboard_walk_step(record, feed, bound + 5, 2, pixels, 16, map, 1);
+        PROMISE(step.chunk && step.next == bound + 5 && same_record(step.record, record));
+        PROMISE(step.answer.number == (length < bound ? SEATBOARD_BYTES_FOLLOW : SEATBOARD_LENGTH_DIFFERS));
     }
     munmap(pages, room);
 }

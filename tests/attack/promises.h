@@ -59,6 +59,9 @@ void try_read(struct board *board, const uint8_t *chunk, size_t length);
 void try_walk(struct board *board, const uint8_t *feed, size_t length);
 void try_run(struct board *board, const uint8_t *run, size_t length);
 
+/* One step of either, at any place. */
+void try_step(struct board *board, const uint8_t *bytes, size_t length, size_t at);
+
 /* What is to be written over the board's picture. Where the two overlap, the new picture starts in the board's own
  * array. The room of the output follows from its kind and from the chunk's length: see room_of. */
 struct wish {
@@ -81,8 +84,9 @@ struct symbol {
 /* Paints on copies of the board's picture, and leaves the board as it is. */
 void try_paint(const struct board *board, const struct symbol *symbol);
 
-/* How often 21 was given where the count would have fallen below 0, and where above the number of blocks. */
-extern size_t fallen_below, risen_above;
+/* How often 21 was given where the count would have fallen below 0, and where above the number of blocks; feeds told
+ * their sizes and were refused; and try_step read a chunk and found none. */
+extern size_t fallen_below, risen_above, sizes_told, sizes_refused, steps_read, steps_ended;
 
 /* Chunks of 2^24 - 1 bytes and of a few more, read and walked, in a feed and in a run. */
 void try_longest_chunks(void);

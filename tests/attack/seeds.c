@@ -1,9 +1,10 @@
 /*
  * The seeds, written as attack.c reads them: width, height, picture, then calls. The calls, in hex: 00 fresh map, 01
  * count, 02 numbers, 03 walk (23 repaired), 04 write (24 overlapping), 05 read (25 repaired, 65 closed too), 06 paint
- * (26 with a head put in front, 66 with its highest bytes first), 07 run (27 repaired); 08 more where buffers begin at
- * a page's start, 10 more where size and lengths are odd, 80 more where the record is untrue, by a byte that follows. A
- * chunk, feed, run or symbol stands behind its length.
+ * (26 with a head put in front, 66 with its highest bytes first), 07 run (27 repaired), 43 and 47 one step of either (63
+ * and 67 repaired), at a place that follows; 08 more where buffers begin at a page's start, 10 more where size and lengths
+ * are odd, 80 more where the record is untrue, by a byte that follows. A chunk, feed, run or symbol stands behind its
+ * length.
  */
 #include <string.h>
 
@@ -35,6 +36,12 @@
 #define NINE "07E1000007600900"
 #define COPIED "06E10000060020"
 #define KEPT "05E100000501"
+
+/* behind its length, for 4,000 blocks: 16 of 16 colours, and the others kept */
+#define SIXTEENS "A502 E1000125 EF" EIGHT(SIXTEEN SIXTEEN) EIGHT("10FF") "10FF10FF10FF10FF10FF10FF10FF 108F"
+
+/* 8 by 4 pixels: the first copied to the second, a chunk that is refused, both of colour 5 */
+#define LISTING "0201 06E10000060020 04E1000004 06E10000066105"
 
 /* behind their lengths, chunks for two blocks with zeros after the last one, and one with another byte: accepted are all
  * but the third and the last */
@@ -91,7 +98,7 @@ static const char *const seeds[] = {
     "07 03 05  24 00 00  24 01 04  2C 03 01",
     /* feeds: the listing's (examples/listing.feed); repaired; numbers badly formed and cut off; chunks cut off; another
      * width and the same lengths; sizes refused */
-    "01 00 00  03 1500 020106E1000006002004E100000406E10000066105  01",
+    "01 00 00  03 1500" LISTING "  01",
     "03 01 09  2B 1500 06 E10000006707 00 05 E100000060 06 E10000002061",
     "00 00 00  03 0200 8000  03 0500 0101808080  0B 0600 010180808080  03 0100 01  03 0600 010180808008",
     "00 00 00  03 0600 0101FFFFFF07  03 0600 010180808004  03 0300 010105  0B 0500 010105E100  03 0000  0B 0000",
@@ -132,6 +139,26 @@ static const char *const seeds[] = {
     /* feeds whose size is not the record's: of the same lengths or not, a record's that is not allowed, a feed's */
     "01 00 07  03 0900 0102" FIVES "  0B 0900 0202" FIVES "  13 05 1B 00 0900 0201" FIVES "  1B 1B 10 00 0900 0201" FIVES
     "  13 15 1B 00 0900 0201" FIVES "  1B 0C 1B 00 0900 5101" FIVES "  83 05 0900 0001" FIVES "  93 05 1B 00 05 0200 8000",
+    /* steps: through the listing's feed and to its end; from other places of it */
+    "01 00 00  43 02 1500" LISTING "  4B 09 1500" LISTING "  43 0E 1500" LISTING "  4B 15 1500" LISTING
+    "  43 00 1500" LISTING "  4B 08 1500" LISTING "  43 F8 1500" LISTING "  4B FF 1500" LISTING,
+    /* a run's, repaired or padded; a feed's that gets the board's size, or has another */
+    "01 00 07  67 00 1400" FIVES FIVES KEPT "  6F 08 1500" NINE COPIED KEPT "  47 09 2F00" PADDED "  4F 1E 2F00" PADDED
+    "  63 02 0700" FIVES "  6B 0A 0F00" NINE COPIED "  43 02 0900 0102" FIVES "  4B 02 0900 8001" FIVES,
+    /* numbers badly formed and cut off, and chunks cut off, behind a chunk; a chunk of length 0 */
+    "00 00 00  47 07 0900" FIVE "8000  4F 07 0B00" FIVE "80808080  47 07 0B00" FIVE "80808008  4F 07 0800" FIVE
+    "80  47 07 0800" FIVE "05  4F 07 0B00" FIVE "05E10000  47 07 0800" FIVE "00  4F 07 0B00" FIVE "FFFFFF07",
+    /* past the end, near and far, also of nothing */
+    "00 00 05  47 F9 0700" FIVE "  4F FA 0700" FIVE "  47 FC 0700" FIVE "  4F FD 0700" FIVE "  47 FE 0700" FIVE
+    "  4F 00 0000  47 F8 0000  4F FF 0000",
+    /* by sides and lengths that are odd, whatever stands there; by records that are untrue */
+    "00 00 00  57 13 13 3F 00 0700" FIVE "  5F 1B 1B 01 07 0700" FIVE "  57 1B 1B 18 FF 0200 8000  5F 10 1B 00 00 0000"
+    "  57 1B 1B 03 00 0200 8000  C7 00 00 0700" FIVE "  CF 04 00 0600 05E100000500  C3 05 02 0900 0101" FIVE,
+    /* on the largest board, of a run and of a feed, a chunk whose length has two bytes */
+    "4F 31 07  47 00 2701" SIXTEENS "  4B 02 2901 5032" SIXTEENS,
+    /* feeds by their sizes: at each limit and past it, and those of which the lower bits would be allowed */
+    "4F 31 00  03 0200 5032  0B 0200 5132  03 0200 5033  0B 0200 5000  03 0300 810201  0B 0300 018102  03 0400 01818002"
+    "  0B 0500 8180800201",
     /* any numbers in the map, moved and counted */
     "03 02 01  02 0600 FFFF0000FEFF  01  65 0800 E100000000214041  09  02 0100 FF  01",
     /* by each call: sides whose product overflows, with lengths of that product; too long and too short by one; empty;

@@ -1,5 +1,5 @@
 /*
- * How much stack each function of the library takes. Linked with `--wrap` for each of the seven, every call of theirs
+ * How much stack each function of the library takes. Linked with `--wrap` for each of the nine, every call of theirs
  * is made on a painted stack of its own; at the end it is said how much paint the worst call of each has touched.
  */
 #include <stdio.h>
@@ -19,6 +19,8 @@ typedef struct seatboard_record Record;
 typedef struct seatboard_recorded Recorded;
 typedef struct seatboard_tally Tally;
 typedef struct seatboard_size Size;
+typedef struct seatboard_feed_size FeedSize;
+typedef struct seatboard_step Step;
 
 static uint8_t *stack;
 static ucontext_t here, there;
@@ -28,7 +30,8 @@ static struct taken {
     size_t bytes;
 } empty = {"an empty call", 0}, fresh_map = {"seatboard_fresh_map", 0}, count = {"seatboard_count", 0},
   read_chunk = {"seatboard_read_chunk", 0}, write_chunk = {"seatboard_write_chunk", 0},
-  walk_feed = {"seatboard_walk_feed", 0}, walk_run = {"seatboard_walk_run", 0},
+  feed_size = {"seatboard_feed_size", 0}, walk_feed = {"seatboard_walk_feed", 0},
+  walk_run = {"seatboard_walk_run", 0}, walk_step = {"seatboard_walk_step", 0},
   paint_symbol = {"seatboard_paint_symbol", 0};
 
 /* What the call under way was lent, and what came back. */
@@ -42,12 +45,14 @@ static struct lent {
     uint16_t *map;
     const uint16_t *counted;
     size_t map_length;
-    size_t frame;
+    size_t at, frame;
     int16_t left, top;
     Answer answer;
     Recorded recorded;
     struct seatboard_count count;
+    FeedSize feed_size;
     Tally tally;
+    Step step;
 } lent;
 
 static void on_paint(struct taken *taken, void (*call)(void))
@@ -72,8 +77,8 @@ static void nothing(void)
 
 static void report(void)
 {
-    static const struct taken *const all[] = {&fresh_map, &count,    &read_chunk,  &write_chunk,
-                                              &walk_feed, &walk_run, &paint_symbol};
+    static const struct taken *const all[] = {&fresh_map, &count,    &read_chunk, &write_chunk, &feed_size,
+                                              &walk_feed, &walk_run, &walk_step,  &paint_symbol};
     for (size_t k = 0; k < sizeof all / sizeof *all; k++)
         if (all[k]->bytes > 0)
             printf("%s: %zu bytes of stack\n", all[k]->name, all[k]->bytes - empty.bytes);
@@ -89,14 +94,16 @@ __attribute__((constructor)) static void begin(void)
     atexit(report);
 }
 
-/* ---- the seven functions: the real one, its call, and what stands in for it ---- */
+/* ---- the nine functions: the real one, its call, and what stands in for it ---- */
 
 Recorded __real_seatboard_v2_fresh_map(Size, uint16_t *, size_t);
 struct seatboard_count __real_seatboard_v2_count(Size, const uint16_t *, size_t);
 Recorded __real_seatboard_v2_read_chunk(Record, const uint8_t *, size_t, uint8_t *, size_t, uint16_t *, size_t);
 Answer __real_seatboard_v2_write_chunk(Size, const uint8_t *, size_t, const uint8_t *, size_t, uint8_t *, size_t);
+FeedSize __real_seatboard_v2_feed_size(const uint8_t *, size_t);
 Recorded __real_seatboard_v2_walk_feed(Record, const uint8_t *, size_t, uint8_t *, size_t, uint16_t *, size_t);
 Tally __real_seatboard_v2_walk_run(Record, const uint8_t *, size_t, uint8_t *, size_t, uint16_t *, size_t);
+Step __real_seatboard_v2_walk_step(Record, const uint8_t *, size_t, size_t, uint8_t *, size_t, uint16_t *, size_t);
 Answer __real_seatboard_v2_paint_symbol(Size, uint8_t *, size_t, const uint8_t *, size_t, size_t, int16_t, int16_t);
 
 static void call_fresh_map(void)
@@ -123,6 +130,11 @@ static void call_write_chunk(void)
                                                   l->out_length);
 }
 
+static void call_feed_size(void)
+{
+    lent.feed_size = __real_seatboard_v2_feed_size(lent.in, lent.in_length);
+}
+
 static void call_walk_feed(void)
 {
     const struct lent *l = &lent;
@@ -135,6 +147,13 @@ static void call_walk_run(void)
     const struct lent *l = &lent;
     lent.tally =
         __real_seatboard_v2_walk_run(l->record, l->in, l->in_length, l->out, l->out_length, l->map, l->map_length);
+}
+
+static void call_walk_step(void)
+{
+    const struct lent *l = &lent;
+    lent.step = __real_seatboard_v2_walk_step(l->record, l->in, l->in_length, l->at, l->out, l->out_length, l->map,
+                                              l->map_length);
 }
 
 static void call_paint_symbol(void)
@@ -183,6 +202,13 @@ Answer __wrap_seatboard_v2_write_chunk(Size size, const uint8_t *old, size_t old
     return lent.answer;
 }
 
+FeedSize __wrap_seatboard_v2_feed_size(const uint8_t *feed, size_t length)
+{
+    lent = (struct lent){.in = feed, .in_length = length};
+    on_paint(&feed_size, call_feed_size);
+    return lent.feed_size;
+}
+
 Recorded __wrap_seatboard_v2_walk_feed(Record record, const uint8_t *feed, size_t length, uint8_t *picture,
                                        size_t pixels, uint16_t *map, size_t blocks)
 {
@@ -197,6 +223,15 @@ Tally __wrap_seatboard_v2_walk_run(Record record, const uint8_t *run, size_t len
     lent = with_board(record, run, length, picture, pixels, map, blocks);
     on_paint(&walk_run, call_walk_run);
     return lent.tally;
+}
+
+Step __wrap_seatboard_v2_walk_step(Record record, const uint8_t *feed, size_t length, size_t at, uint8_t *picture,
+                                   size_t pixels, uint16_t *map, size_t blocks)
+{
+    lent = with_board(record, feed, length, picture, pixels, map, blocks);
+    lent.at = at;
+    on_paint(&walk_step, call_walk_step);
+    return lent.step;
 }
 
 Answer __wrap_seatboard_v2_paint_symbol(Size size, uint8_t *picture, size_t pixels, const uint8_t *file, size_t length,

@@ -41,6 +41,28 @@ pub struct Tally {
     pub record: Record,
 }
 
+#[repr(C)]
+#[derive(Clone, Copy, Debug, PartialEq, Eq)]
+pub struct FeedSize {
+    pub answer: Answer,
+    /// 0 by 0 where the feed was refused.
+    pub size: Size,
+    /// The place behind the size numbers; 0 where the feed was refused.
+    pub first: usize,
+}
+
+#[repr(C)]
+#[derive(Clone, Copy, Debug, PartialEq, Eq)]
+pub struct Step {
+    /// The chunk's or, where there was none, the walk's own.
+    pub answer: Answer,
+    /// As it is after the call.
+    pub record: Record,
+    pub chunk: bool,
+    /// The place behind the chunk or, where there was none, the one that was lent.
+    pub next: usize,
+}
+
 // The symbols have the number of the interface in their names: with the library of another one this
 // file does not link.
 extern "C" {
@@ -68,6 +90,8 @@ extern "C" {
         output: *mut u8,
         output_length: usize,
     ) -> Answer;
+    #[link_name = "seatboard_v2_feed_size"]
+    fn seatboard_feed_size(feed: *const u8, feed_length: usize) -> FeedSize;
     #[link_name = "seatboard_v2_walk_feed"]
     fn seatboard_walk_feed(
         record: Record,
@@ -88,6 +112,17 @@ extern "C" {
         map: *mut u16,
         map_length: usize,
     ) -> Tally;
+    #[link_name = "seatboard_v2_walk_step"]
+    fn seatboard_walk_step(
+        record: Record,
+        feed: *const u8,
+        feed_length: usize,
+        at: usize,
+        picture: *mut u8,
+        picture_length: usize,
+        map: *mut u16,
+        map_length: usize,
+    ) -> Step;
     #[link_name = "seatboard_v2_paint_symbol"]
     fn seatboard_paint_symbol(
         size: Size,
@@ -145,6 +180,11 @@ pub fn write_chunk(size: Size, old: &[u8], new: &[u8], output: &mut [u8]) -> Ans
     }
 }
 
+pub fn feed_size(feed: &[u8]) -> FeedSize {
+    // SAFETY: as above.
+    unsafe { seatboard_feed_size(feed.as_ptr(), feed.len()) }
+}
+
 pub fn walk_feed(record: Record, feed: &[u8], picture: &mut [u8], map: &mut [u16]) -> Recorded {
     // SAFETY: as above.
     unsafe {
@@ -167,6 +207,28 @@ pub fn walk_run(record: Record, run: &[u8], picture: &mut [u8], map: &mut [u16])
             record,
             run.as_ptr(),
             run.len(),
+            picture.as_mut_ptr(),
+            picture.len(),
+            map.as_mut_ptr(),
+            map.len(),
+        )
+    }
+}
+
+pub fn walk_step(
+    record: Record,
+    feed: &[u8],
+    at: usize,
+    picture: &mut [u8],
+    map: &mut [u16],
+) -> Step {
+    // SAFETY: as above.
+    unsafe {
+        seatboard_walk_step(
+            record,
+            feed.as_ptr(),
+            feed.len(),
+            at,
             picture.as_mut_ptr(),
             picture.len(),
             map.as_mut_ptr(),

@@ -1,11 +1,13 @@
 //! The proved picture codec of the seat boards, for Rust programs: SMC chunks read and written, the
 //! map that says which blocks of a picture can be trusted and the record that keeps how many cannot,
-//! the walk of the house feed and of a run of chunks, and seat symbols painted on a shown picture.
+//! the walk of the house feed and of a run of chunks, at once or step by step, and seat symbols painted
+//! on a shown picture.
 //!
-//! Slices in, a [`Result`] out (of a run a [`Tally`] with one), nothing `unsafe` for the caller, no
-//! panic, and no allocation but for a [`Board`]. Any bytes, lengths and records may be lent. A refused
-//! call leaves all that it was lent as it was, but for a walk, of a feed or of a run, that ends in
-//! [`Reason::BadVarint`] or [`Reason::FeedCut`]: it leaves what the chunks accepted before that made.
+//! Slices in, a [`Result`] out (of a run a [`Tally`] and of a step a [`Step`] with one), nothing
+//! `unsafe` for the caller, no panic, and no allocation but for a [`Board`]. Any bytes, lengths and
+//! records may be lent. A refused call leaves all that it was lent as it was, but for a walk, of a feed
+//! or of a run, that ends in [`Reason::BadVarint`] or [`Reason::FeedCut`]: it leaves what the chunks
+//! accepted before that made.
 //!
 //! A [`Board`] keeps picture, map and record together:
 //!
@@ -43,7 +45,7 @@
 use std::error::Error;
 use std::fmt::{self, Display, Formatter};
 
-pub use board::Board;
+pub use board::{Board, Steps};
 
 mod board;
 pub mod exact;
@@ -120,6 +122,29 @@ pub struct Tally {
     pub end: Result<Accepted, Refused>,
 }
 
+/// What a feed says of itself before its first chunk.
+#[derive(Clone, Copy, Debug, PartialEq, Eq)]
+#[non_exhaustive]
+pub struct FeedSize {
+    pub size: Size,
+    /// The place behind the size numbers: there the first step of a walk begins.
+    pub first: usize,
+}
+
+/// What one step of a walk tells.
+#[derive(Clone, Copy, Debug, PartialEq, Eq)]
+#[must_use]
+pub enum Step {
+    /// A chunk was read: what it answered, and the place behind it, where the next step begins. One
+    /// that was refused changed nothing and does not end the walk.
+    Chunk {
+        said: Result<Accepted, Refused>,
+        next: usize,
+    },
+    /// No chunk stands at the place: the walk's own end. Nothing was changed.
+    End(Result<Accepted, Refused>),
+}
+
 /// Why a call was refused, and where.
 #[derive(Clone, Copy, Debug, PartialEq, Eq)]
 #[non_exhaustive]
@@ -185,30 +210,33 @@ pub enum Reason {
 }
 
 impl Reason {
-    /// In the order of their numbers, from 1.
-    pub const ALL: [Reason; 21] = [
-        Reason::BadSize,
-        Reason::BadLength,
-        Reason::ChunkShort,
-        Reason::LengthDiffers,
-        Reason::BlocksRemain,
-        Reason::OpcodeCut,
-        Reason::OpcodeUnknown,
-        Reason::NoneBefore,
-        Reason::PastLastBlock,
-        Reason::EntryEmpty,
-        Reason::BytesFollow,
-        Reason::BadVarint,
-        Reason::FeedCut,
-        Reason::OutputShort,
-        Reason::BadSprite,
-        Reason::NoSuchFrame,
-        Reason::BadFrame,
-        Reason::BadRow,
-        Reason::BadSegment,
-        Reason::NoEndMarker,
-        Reason::BadCount,
-    ];
+    /// The reason that has this number. There are none but 1 to 21: any other is taken for the last,
+    /// so that whatever is not 0 is a refusal.
+    pub const fn numbered(number: u8) -> Self {
+        match number {
+            1 => Reason::BadSize,
+            2 => Reason::BadLength,
+            3 => Reason::ChunkShort,
+            4 => Reason::LengthDiffers,
+            5 => Reason::BlocksRemain,
+            6 => Reason::OpcodeCut,
+            7 => Reason::OpcodeUnknown,
+            8 => Reason::NoneBefore,
+            9 => Reason::PastLastBlock,
+            10 => Reason::EntryEmpty,
+            11 => Reason::BytesFollow,
+            12 => Reason::BadVarint,
+            13 => Reason::FeedCut,
+            14 => Reason::OutputShort,
+            15 => Reason::BadSprite,
+            16 => Reason::NoSuchFrame,
+            17 => Reason::BadFrame,
+            18 => Reason::BadRow,
+            19 => Reason::BadSegment,
+            20 => Reason::NoEndMarker,
+            _ => Reason::BadCount,
+        }
+    }
 
     pub const fn number(self) -> u8 {
         self as u8
@@ -299,6 +327,26 @@ pub fn write_chunk(
     accepted(exact::write_chunk(size, old, new, output))
 }
 
+/// The size that a feed states, so that a picture and a map can be made for it, and where its first
+/// chunk's length stands: [`Reason::BadVarint`] or [`Reason::FeedCut`] at a size number that fails,
+/// [`Reason::BadSize`] for a size that is not allowed.
+///
+/// ```
+/// # fn main() -> Result<(), seatboard::Refused> {
+/// let stated = seatboard::feed_size(&[2, 1, 6, 0xE1, 0, 0, 6, 0x61, 5])?;
+/// assert_eq!((stated.size.width, stated.size.height, stated.first), (8, 4, 2));
+/// # Ok(())
+/// # }
+/// ```
+pub fn feed_size(feed: &[u8]) -> Result<FeedSize, Refused> {
+    let exact::FeedSize {
+        answer,
+        size,
+        first,
+    } = exact::feed_size(feed);
+    accepted(answer).map(|_| FeedSize { size, first })
+}
+
 /// Walks a feed, whose size must be the record's, over a picture and its map, and brings their record
 /// up to date, where the end is refused too. A refused chunk changes nothing and does not end the
 /// walk.
@@ -320,6 +368,54 @@ pub fn walk_run(record: &mut Record, run: &[u8], picture: &mut [u8], map: &mut [
     Tally {
         accepted: tally.accepted,
         end: accepted(tally.answer),
+    }
+}
+
+/// One step of a walk: reads the chunk whose length stands at a place of a feed or run, and brings the
+/// record up to date. Step by step, from [`FeedSize::first`] on in a feed and from 0 on in a run, it is
+/// the walk. A step reads no size numbers; [`Board::steps`] does.
+///
+/// ```
+/// # fn main() -> Result<(), seatboard::Refused> {
+/// use seatboard::{Size, Step};
+///
+/// let size = Size { width: 4, height: 4 };
+/// let (mut picture, mut map) = ([0; 16], [0]);
+/// let mut record = seatboard::fresh_map(size, &mut map)?;
+///
+/// // a chunk of length 0, which is refused, and a block of colour 5
+/// let run = [0, 6, 0xE1, 0, 0, 6, 0x60, 5];
+/// let (mut at, mut accepted) = (0, Vec::new());
+/// let end = loop {
+///     match seatboard::walk_step(&mut record, &run, at, &mut picture, &mut map) {
+///         Step::Chunk { said, next } => {
+///             accepted.push(said.is_ok());
+///             at = next;
+///         }
+///         Step::End(end) => break end,
+///     }
+/// };
+/// assert_eq!((accepted, end?.length, record.unsettled), (vec![false, true], 8, 0));
+/// # Ok(())
+/// # }
+/// ```
+pub fn walk_step(
+    record: &mut Record,
+    feed: &[u8],
+    at: usize,
+    picture: &mut [u8],
+    map: &mut [u16],
+) -> Step {
+    let step = exact::walk_step(*record, feed, at, picture, map);
+    *record = step.record;
+    let said = accepted(step.answer);
+    if step.chunk {
+        Step::Chunk {
+            said,
+            next: step.next,
+        }
+    } else {
+        Step::End(said)
     }
 }
 
@@ -357,9 +453,8 @@ fn accepted(answer: exact::Answer) -> Result<Accepted, Refused> {
             length: place,
             block,
         }),
-        // the library gives no other number: its contracts say so
         refused => Err(Refused {
-            reason: Reason::ALL[usize::from(refused) - 1],
+            reason: Reason::numbered(refused),
             place,
             block,
         }),

@@ -1,7 +1,7 @@
 //! Every refusal through the wrapper: its reason, number, place and block, and the buffers and the
 //! record as they were.
 
-use seatboard::{exact, Accepted, Board, Reason, Record, Refused, Size};
+use seatboard::{exact, Accepted, Board, Reason, Record, Refused, Size, Step};
 
 const SIZE: Size = Size {
     width: 8,
@@ -167,6 +167,7 @@ fn what_reads_and_writes_no_chunk_says_block_0() {
     let (picture, map) = (&mut [0; 128], &mut [0; 8]);
     assert_eq!(exact::fresh_map(EIGHT, map).answer, NOWHERE);
     assert_eq!(exact::count(EIGHT, map).answer, NOWHERE);
+    assert_eq!(exact::feed_size(&[4, 2, 0]).answer, NOWHERE);
     let file = dot_with(0, 0);
     assert_eq!(exact::paint_symbol(EIGHT, picture, &file, 0, 0, 0), NOWHERE);
 }
@@ -312,6 +313,215 @@ fn what_a_run_accepted_before_its_end_stays_and_counts() {
     assert_eq!(after_run(&[0x80]), (2, (Reason::FeedCut, 19, 0)));
     assert_eq!(after_run(&[0x80, 1, 0xE1]), (2, (Reason::FeedCut, 21, 0)));
     assert_eq!(after_run(&[6]), (2, (Reason::FeedCut, 20, 0)));
+}
+
+const NO_SIZE: Size = Size {
+    width: 0,
+    height: 0,
+};
+
+/// Number, place and block, the size, and where the first chunk's length stands.
+fn exact_size(feed: &[u8]) -> ((u8, usize, usize), Size, usize) {
+    let exact::FeedSize {
+        answer,
+        size,
+        first,
+    } = exact::feed_size(feed);
+    ((answer.number, answer.place, answer.block), size, first)
+}
+
+#[test]
+fn a_feed_says_its_size() {
+    let cases = [(1, 1, 4, 4), (2, 1, 8, 4), (1, 2, 4, 8), (80, 50, 320, 200)];
+    for (across, down, width, height) in cases {
+        // whatever follows the size numbers
+        for more in [&[][..], &[0], &[0x80, 0], &RUN] {
+            let feed = [&[across, down], more].concat();
+            let size = Size { width, height };
+            let stated = seatboard::feed_size(&feed).expect("accepted");
+            assert_eq!((stated.size, stated.first), (size, 2));
+            assert_eq!(exact_size(&feed), ((0, 0, 0), size, 2));
+            let board = Board::for_feed(&feed).expect("accepted");
+            assert_eq!(board, Board::new(size).expect("an allowed size"));
+        }
+    }
+}
+
+#[test]
+fn a_feed_without_a_size_is_refused() {
+    let cases: [(&[u8], Reason, usize); 14] = [
+        (&[], Reason::FeedCut, 0),
+        (&[0x80], Reason::FeedCut, 0),
+        (&[2], Reason::FeedCut, 1),
+        (&[0, 0x80], Reason::FeedCut, 1),
+        (&[0x80, 1, 0x80], Reason::FeedCut, 2),
+        (&[0x82, 0], Reason::BadVarint, 0),
+        (&[2, 0x81, 0, 0], Reason::BadVarint, 1),
+        (&[0x80, 1, 0x80, 0x80, 0x80, 0x80], Reason::BadVarint, 2),
+        (&[0, 1], Reason::BadSize, 0),
+        (&[2, 0, 9], Reason::BadSize, 0),
+        (&[81, 1], Reason::BadSize, 0),
+        (&[80, 51], Reason::BadSize, 0),
+        // in 8 bits 1 by 1
+        (&[0x81, 2, 1], Reason::BadSize, 0),
+        (&[0xFF, 0xFF, 0xFF, 7, 51, 0x80, 0], Reason::BadSize, 0),
+    ];
+    let mut board = Board::new(SIZE).expect("an allowed size");
+    for (feed, reason, place) in cases {
+        let says = (reason, place, 0);
+        assert_eq!(refused(seatboard::feed_size(feed)), says);
+        assert_eq!(refused(Board::for_feed(feed)), says);
+        assert_eq!(refused(board.steps(feed)), says);
+        assert_eq!(refused(board.walk_feed(feed)), says);
+        assert_eq!(exact_size(feed), ((reason.number(), place, 0), NO_SIZE, 0));
+    }
+    assert_eq!(board, Board::new(SIZE).expect("an allowed size"));
+}
+
+/// Number, place and block, whether a chunk was read, and where to go on.
+type Stepped = ((u8, usize, usize), bool, usize);
+
+/// One step over this picture, map and record, by both ways of calling.
+fn walk_step(
+    kept: &mut Record,
+    feed: &[u8],
+    at: usize,
+    picture: &mut [u8],
+    map: &mut [u16],
+) -> Stepped {
+    let (mut same_picture, mut same_map) = (picture.to_vec(), map.to_vec());
+    let step = exact::walk_step(*kept, feed, at, &mut same_picture, &mut same_map);
+    let (said, chunk, next) = match seatboard::walk_step(kept, feed, at, picture, map) {
+        Step::Chunk { said, next } => (said, true, next),
+        Step::End(said) => (said, false, at),
+    };
+    let said = said.map_or_else(
+        |refused| (refused.reason.number(), refused.place, refused.block),
+        |accepted| (0, accepted.length, accepted.block),
+    );
+    let answer = step.answer;
+    assert_eq!(said, (answer.number, answer.place, answer.block));
+    assert_eq!((chunk, next), (step.chunk, step.next));
+    assert_eq!((&*picture, &*map), (&same_picture[..], &same_map[..]));
+    assert_eq!(*kept, step.record);
+    (said, chunk, next)
+}
+
+/// The same over a picture of zeros and a fresh map, which must stay so: with the record of that size,
+/// and with one that is untrue to it.
+fn step_unchanged(size: Size, feed: &[u8], at: usize) -> Stepped {
+    let steps = [size.blocks(), usize::MAX].map(|unsettled| {
+        let (mut picture, mut map, mut kept) = ([0; 32], [0, 1], record(size, unsettled));
+        let step = walk_step(&mut kept, feed, at, &mut picture, &mut map);
+        assert_eq!((picture, map), ([0; 32], [0, 1]));
+        assert_eq!(kept, record(size, unsettled));
+        step
+    });
+    assert_eq!(steps[0], steps[1]);
+    steps[0]
+}
+
+#[test]
+fn a_step_reads_one_chunk() {
+    let (mut picture, mut map, mut kept) = ([0; 32], [0, 1], fresh(SIZE));
+    let mut step = |at| {
+        let step = walk_step(&mut kept, &RUN, at, &mut picture, &mut map);
+        (step, picture[31], map, kept.unsettled)
+    };
+    assert_eq!(step(0), (((0, 6, 2), true, 7), 0, [0, 0], 2));
+    assert_eq!(step(7), (((5, 4, 0), true, 12), 0, [0, 0], 2));
+    assert_eq!(step(12), (((0, 6, 2), true, 19), 5, [65_535; 2], 0));
+    assert_eq!(step(19), (((0, 19, 2), false, 19), 5, [65_535; 2], 0));
+    // at any other place a number is taken for a length too: here it is 4
+    assert_eq!(step(11), (((4, 0, 0), true, 16), 5, [65_535; 2], 0));
+}
+
+#[test]
+fn a_step_reads_no_size_numbers() {
+    let upright = [&[1, 2], &RUN[..]].concat();
+    let (mut picture, mut map, mut kept) = ([0; 32], [0, 1], fresh(SIZE));
+    let step = walk_step(&mut kept, &upright, 2, &mut picture, &mut map);
+    assert_eq!((step, map), (((0, 6, 2), true, 9), [0, 0]));
+}
+
+#[test]
+fn a_step_goes_by_lengths_of_several_bytes() {
+    // eight blocks of sixteen colours each, which are all 9
+    let run = [&[0x85, 1, 0xE1, 0, 0, 133, 0xE7], &[9; 128][..], &[0]].concat();
+    let (mut picture, mut map, mut kept) = ([0; 128], [0; 8], fresh(EIGHT));
+    let step = walk_step(&mut kept, &run, 0, &mut picture, &mut map);
+    assert_eq!((step, kept.unsettled), (((0, 133, 8), true, 135), 0));
+    assert_eq!((picture, map), ([9; 128], [65_535; 8]));
+}
+
+#[test]
+fn a_step_where_no_chunk_stands_is_the_end() {
+    let end = |number, place, block, at| ((number, place, block), false, at);
+    for at in [19, 20, 1 << 32, 1 << 63, usize::MAX - 1, usize::MAX] {
+        assert_eq!(step_unchanged(SIZE, &RUN, at), end(0, 19, 2, at));
+        assert_eq!(step_unchanged(SIZE, &[], at), end(0, 0, 2, at));
+        // size and lengths go first
+        assert_eq!(step_unchanged(WRONG, &RUN, at), end(1, 0, 0, at));
+        assert_eq!(step_unchanged(LONE, &RUN, at), end(2, 0, 0, at));
+    }
+    assert_eq!(step_unchanged(WRONG, &RUN, 0), end(1, 0, 0, 0));
+    assert_eq!(step_unchanged(LONE, &RUN, 7), end(2, 0, 0, 7));
+    let failing = [0, 0x80, 0];
+    assert_eq!(step_unchanged(SIZE, &failing, 1), end(12, 1, 0, 1));
+    assert_eq!(step_unchanged(SIZE, &failing[..2], 1), end(13, 1, 0, 1));
+    assert_eq!(step_unchanged(SIZE, &RUN[..18], 12), end(13, 13, 0, 12));
+    assert_eq!(step_unchanged(SIZE, &[0, 1], 1), end(13, 2, 0, 1));
+}
+
+#[test]
+fn a_refused_step_goes_on_behind_its_chunk() {
+    let chunk = |says| (says, true, 5);
+    assert_eq!(step_unchanged(SIZE, &RUN[7..], 0), chunk((5, 4, 0)));
+    assert_eq!(step_unchanged(SIZE, &[0], 0), ((3, 0, 0), true, 1));
+    let (mut picture, mut map, mut untrue) = ([0; 32], [0, 1], record(SIZE, 3));
+    let run = [&[5], &KEPT[..]].concat();
+    let step = walk_step(&mut untrue, &run, 0, &mut picture, &mut map);
+    assert_eq!((step, untrue.unsettled), (((21, 0, 0), true, 6), 3));
+}
+
+#[test]
+fn a_board_goes_through_a_feed_step_by_step() {
+    let feed = [&[2, 1], &RUN[..], &[0x80]].concat();
+    let mut walked = Board::for_feed(&feed).expect("an allowed size");
+    let mut board = walked.clone();
+    let end = walked.walk_feed(&feed);
+    let mut steps = board.steps(&feed).expect("its own size");
+    for (accepted, unsettled) in [(true, 2), (false, 2), (true, 0)] {
+        assert_eq!(steps.end(), None);
+        let said = steps.next().expect("a chunk");
+        assert_eq!(
+            (said.is_ok(), steps.board().unsettled()),
+            (accepted, unsettled)
+        );
+        assert!(count_is_true(steps.board()));
+    }
+    // asked again it stays at the end
+    for _ in 0..2 {
+        assert_eq!((steps.next(), steps.end()), (None, Some(end)));
+    }
+    assert_eq!(refused(end), (Reason::FeedCut, 21, 0));
+    assert_eq!(board, walked);
+}
+
+#[test]
+fn a_board_reads_no_chunk_that_is_not_asked_for() {
+    let feed = [&[2, 1], &RUN[..]].concat();
+    let mut board = Board::new(SIZE).expect("an allowed size");
+    let mut steps = board.steps(&feed).expect("its own size");
+    assert_eq!(steps.next().map(accepted), Some((6, 2)));
+    assert_eq!((board.picture(), board.map()), (&[0; 32][..], &[0, 0][..]));
+    // a feed of another size, with buffers of the same lengths
+    let before = board.clone();
+    let upright = [&[1, 2], &RUN[..]].concat();
+    let refusal = (Reason::BadLength, 0, 0);
+    assert_eq!(refused(board.steps(&upright)), refusal);
+    assert_eq!(refused(board.walk_feed(&upright)), refusal);
+    assert_eq!(board, before);
 }
 
 /// Block 0 copied to block 1, and both blocks kept.
@@ -498,9 +708,13 @@ fn symbols_are_refused_by_their_numbers() {
 }
 
 #[test]
-fn reasons_are_in_the_order_of_their_numbers() {
-    let numbers: Vec<u8> = Reason::ALL.iter().map(|reason| reason.number()).collect();
-    assert_eq!(numbers, Vec::from_iter(1..=21));
+fn every_number_has_its_reason() {
+    for number in 1..=21 {
+        assert_eq!(Reason::numbered(number).number(), number);
+    }
+    for none in [0].into_iter().chain(22..=255) {
+        assert_eq!(Reason::numbered(none), Reason::BadCount);
+    }
 }
 
 #[test]

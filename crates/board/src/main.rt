@@ -6,7 +6,6 @@ use listing::Line;
 use spec::Decision;
 use spec::Record;
 use spec::Size;
-use spec::Step;
 ghost use Prim.Native.Nat.{_≤_};
 ghost use lib.ListN.{length};
 ghost use Rattle.spec.specs.Sizes.{pixels, blocks};
@@ -28,11 +27,11 @@ fn print_chunks(lent: Record, feed: &[u8], first: usize, picture: &mut [u8], map
         let listed = listing::list_step(kept, feed, at, chunk, picture, map);
         print(listed.line);
         let step = listed.step;
-        let Step::Chunk(read, past) = step else {
+        if !step.chunk {
             return;
-        };
-        kept = read.kept;
-        at = past;
+        }
+        kept = step.kept;
+        at = step.next;
         chunk += 1;
     }
 }

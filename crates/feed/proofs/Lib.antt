@@ -1,4 +1,5 @@
 pub mod Grouping
+pub mod Standing
 pub mod Walking
 pub mod Opening
 pub mod Deciding

@@ -1,26 +1,25 @@
 -- The walk's loop: what it keeps, and its ways on and out. Assumes nothing.
-use Prim.Native.Nat.{ℕ, _+_, _-_, _≤_}
-use mathlib.Core.Path.{_≡_, refl, sym, ap, subst, _∙_}
+use Prim.Native.Nat.{ℕ, _+_, _-_, _<_, _≤_}
+use mathlib.Core.Path.{_≡_, refl, sym, ap, subst, subst⁻¹, _∙_}
 use mathlib.Core.Logic.{_≢_}
 use mathlib.Core.List.{List}
+use mathlib.Core.Bool.{true, false, true≢false}
 use native.Mathlib.Nat.{add-zero, zero-add, add-assoc, le-refl}
 use native.Mathlib.Omega.{arith}
 use lib.Dec.{eqb}
 use lib.ListN.{length}
 use borrow.Author.Tests.{eq-eqb, ne-eqb}
-use Rattle.spec.specs.declared.Answer.{Answer}
 use Rattle.spec.specs.declared.Size.{Size}
 use Rattle.spec.specs.declared.Record.{Record}
-use Rattle.spec.specs.declared.Recorded.{Recorded}
 use Rattle.spec.specs.declared.Step.{Step}
-use Rattle.spec.specs.declared.Step.the-variants as Step
 use Rattle.spec.specs.Basics.{if}
 use Rattle.spec.specs.Answers.{ok}
+use Rattle.spec.specs.Sizes.{fault}
 use Rattle.spec.specs.Maps.{recordOf}
-use Rattle.spec.specs.Boards.{Board, board, Left}
-use Rattle.spec.specs.Feeds.{Reply, chunksFrom, readAll, walkStep, tally}
-use Rattle.spec.proofs.Lists.{one-or-none}
-use Rattle.spec.proofs.Feeds.{Onward, Over, Stepped, stepped}
+use Rattle.spec.specs.Boards.{Board, board, Left, exact}
+use Rattle.spec.specs.Feeds.{nextAt, Reply, chunksFrom, readAll, stepBy, walkStep, tally}
+use Rattle.spec.proofs.Lists.{one-or-none, by-checked}
+use Rattle.spec.proofs.Feeds.{Onward, Stepped, stepped}
 
 -- the count with one chunk more, accepted or refused
 pub counted-more : (n : ℕ) {x : ℕ} → x ≡ ok → n + 1 ≡ n + if (eqb x ok) 1 0
@@ -47,60 +46,72 @@ pub record Walking (z : Size) (s : List ℕ) (first : ℕ) (lent : Board) (at n 
 pub walking-none : (s : List ℕ) (first : ℕ) (pic m : List ℕ) (r : Record) → Walking (r .size) s first (board pic m (r .unsettled)) first 0 pic m r
 walking-none s first pic m r = record { size = refl; answers = refl; counts = sym (zero-add _); boards = refl; few = omega arith }
 
-module _ {z : Size} {s : List ℕ} {first : ℕ} {lent : Board} {at n : ℕ} {pic m : List ℕ} {r : Record} (w : Walking z s first lent at n pic m r)
-    {x : Step} (said : x ≡ walkStep (r .size) s at (board pic m (r .unsettled)) .said) where
+module _ {z : Size} {s : List ℕ} {first : ℕ} {lent : Board} {at n : ℕ} {pic m : List ℕ} {r : Record} (w : Walking z s first lent at n pic m r) where
   abbrev here : Board
   here = board pic m (r .unsettled)
 
-  -- the step was made with the record's size, which is the walk's
+  -- a step that was made with the record's size, which is the walk's
   abbrev steps : Size → Left Step
-  steps y = walkStep y s at here
+  steps y = stepBy y s at (nextAt s at) here
 
-  tells : {y : Step} → x ≡ y → Stepped z s (length s) at (chunksFrom (length s) s at) here y (steps z .board)
-  tells e =
-      subst (λ y. Stepped z s (length s) at (chunksFrom (length s) s at) here y (steps z .board)) (sym (said ∙ ap (λ y. steps y .said) (w .size)) ∙ e)
-      (stepped z s (length s) (le-refl (length s)) at here)
+  module _ {x : Step} (said : x ≡ steps (r .size) .said) where
+    tells : Stepped z s (length s) at (chunksFrom (length s) s at) here x (steps z .board)
+    tells =
+        subst (λ y. Stepped z s (length s) at (chunksFrom (length s) s at) here y (steps z .board)) (sym (said ∙ ap (λ y. steps y .said) (w .size)))
+        (stepped z s (length s) (le-refl (length s)) at here)
 
-  -- a step that read a chunk
-  pub step-onward : {a : Recorded} {past : ℕ} → x ≡ Step.Chunk a past → Onward z s (length s) at (chunksFrom (length s) s at) here a past (steps z .board)
-  step-onward e = tells e
+    -- one that read a chunk
+    pub step-onward : x .chunk ≡ true → Onward z s (length s) at (chunksFrom (length s) s at) here x (steps z .board)
+    step-onward e = tells .onward e
 
-  -- no more were accepted than bytes were passed
-  pub accepted-fits : {a : Recorded} {past : ℕ} → x ≡ Step.Chunk a past → n + 1 ≤ past
-  accepted-fits e = let o = step-onward e in omega (arith, w .few, o .further, o .within)
+    -- no more were accepted than bytes were passed
+    pub accepted-fits : x .chunk ≡ true → n + 1 ≤ x .next
+    accepted-fits e = let o = step-onward e in omega (arith, w .few, o .further, o .within)
 
-  pub walking-on : {a : Recorded} {past : ℕ} → x ≡ Step.Chunk a past → {pic′ m′ : List ℕ}
-      → pic′ ≡ steps (r .size) .board .picture → m′ ≡ steps (r .size) .board .map
-      → (now : ℕ) → now ≡ n + if (eqb (a .answer .number) ok) 1 0 → Walking z s first lent past now pic′ m′ (a .kept)
-  walking-on {a = a} {past = past} e {pic′} {m′} p q now counted =
-      let o = step-onward e in
-      let one : ℕ = if (eqb (a .answer .number) ok) 1 0 in
-      let p′ = p ∙ ap (λ y. steps y .board .picture) (w .size) in
-      let q′ = q ∙ ap (λ y. steps y .board .map) (w .size) in
-      let kept = ap (λ (k : Record). k .unsettled) (o .kept) in
-      let onto : steps z .board ≡ board pic′ m′ (a .kept .unsettled) = λ i. board (sym p′ i) (sym q′ i) (sym kept i) in
-      record {
-        size = ap (λ (k : Record). k .size) (o .kept);
-        answers = w .answers ∙ ap (λ l. l .said .answer) (o .walked) ∙ ap (λ b. rest z s past b .said .answer) onto;
-        counts = w .counts
-            ∙ ap (λ l. n + l .said .accepted) (o .walked)
-            ∙ sym (add-assoc n one _)
-            ∙ rw (← counted) (ap (λ b. now + rest z s past b .said .accepted) onto);
-        boards = w .boards ∙ ap (λ l. l .board) (o .walked) ∙ ap (λ b. rest z s past b .board) onto;
-        few = omega (arith, w .few, o .further, o .within, counted, one-or-none (eqb (a .answer .number) ok));
-      }
+    pub walking-on : x .chunk ≡ true → {pic′ m′ : List ℕ} → pic′ ≡ steps (r .size) .board .picture → m′ ≡ steps (r .size) .board .map
+        → (now : ℕ) → now ≡ n + if (eqb (x .answer .number) ok) 1 0 → Walking z s first lent (x .next) now pic′ m′ (x .kept)
+    walking-on e {pic′} {m′} p q now counted =
+        let o = step-onward e in
+        let one : ℕ = if (eqb (x .answer .number) ok) 1 0 in
+        let p′ = p ∙ ap (λ y. steps y .board .picture) (w .size) in
+        let q′ = q ∙ ap (λ y. steps y .board .map) (w .size) in
+        let kept = ap (λ (k : Record). k .unsettled) (tells .kept) in
+        let onto : steps z .board ≡ board pic′ m′ (x .kept .unsettled) = λ i. board (sym p′ i) (sym q′ i) (sym kept i) in
+        let past = x .next in
+        record {
+          size = ap (λ (k : Record). k .size) (tells .kept);
+          answers = w .answers ∙ ap (λ l. l .said .answer) (o .walked) ∙ ap (λ b. rest z s past b .said .answer) onto;
+          counts = w .counts
+              ∙ ap (λ l. n + l .said .accepted) (o .walked)
+              ∙ sym (add-assoc n one _)
+              ∙ rw (← counted) (ap (λ b. now + rest z s past b .said .accepted) onto);
+          boards = w .boards ∙ ap (λ l. l .board) (o .walked) ∙ ap (λ b. rest z s past b .board) onto;
+          few = omega (arith, w .few, o .further, o .within, counted, one-or-none (eqb (x .answer .number) ok));
+        }
 
-  -- one that found none
-  over : {a : Answer} → x ≡ Step.End a → Over z (chunksFrom (length s) s at) here a (steps z .board)
-  over e = tells e
+    -- one that found none
+    pub walking-left : x .chunk ≡ false → steps (r .size) .board ≡ rest z s first lent .board
+    walking-left e = ap (λ y. steps y .board) (w .size) ∙ sym (w .boards ∙ ap (λ l. l .board) (tells .over e .walked))
 
-  pub walking-left : {a : Answer} → x ≡ Step.End a → steps (r .size) .board ≡ rest z s first lent .board
-  walking-left e = ap (λ y. steps y .board) (w .size) ∙ sym (w .boards ∙ ap (λ l. l .board) (over e .walked))
+    pub walking-over : x .chunk ≡ false → record { answer = x .answer; accepted = n; kept = r } ≡ tally z (rest z s first lent)
+    walking-over e =
+        let over = tells .over e in
+        let own = sym (w .answers ∙ ap (λ l. l .said .answer) (over .walked)) in
+        let counted = sym (w .counts ∙ ap (λ l. n + l .said .accepted) (over .walked) ∙ add-zero n) in
+        let after = ap (λ l. l .board) (over .walked) ∙ over .same in
+        let kept = sym (ap (λ (b : Board). b .kept) (w .boards ∙ after)) in
+        let size = w .size in
+        λ i. record { answer = own i; accepted = counted i; kept = recordOf (size i) (kept i) }
 
-  pub walking-over : {a : Answer} → x ≡ Step.End a → record { answer = a; accepted = n; kept = r } ≡ tally z (rest z s first lent)
-  walking-over e =
-      let own = sym (w .answers ∙ ap (λ l. l .said .answer) (over e .walked)) in
-      let counted = sym (w .counts ∙ ap (λ l. n + l .said .accepted) (over e .walked) ∙ add-zero n) in
-      let kept = over e .kept ∙ sym (ap (λ (b : Board). b .kept) (w .boards ∙ ap (λ l. l .board) (over e .walked))) in
-      let size = w .size in
-      λ i. record { answer = own i; accepted = counted i; kept = recordOf (size i) (kept i) }
+-- a step that read a chunk, whatever it was lent, has gone on, within the feed
+pub step-further : (z : Size) (s : List ℕ) (at : ℕ) (b : Board) {x : Step} → x ≡ walkStep z s at b .said → x .chunk ≡ true
+    → (at < x .next) × (x .next ≤ length s)
+unfolding walkStep
+step-further z s at b said e =
+    subst⁻¹ Further said
+    (by-checked (λ (l : Left Step). Further (l .said)) (fault z (exact z b)) (λ a t. absurd (true≢false (sym t))) (λ t.
+    let o = stepped z s (length s) (le-refl (length s)) at b .onward t in
+    (o .further, o .within))) e
+  where
+    Further : Step → Type 0
+    Further x = x .chunk ≡ true → (at < x .next) × (x .next ≤ length s)

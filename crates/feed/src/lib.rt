@@ -3,38 +3,31 @@
 mod numbers;
 mod walk;
 
-pub use numbers::size_numbers;
+pub use numbers::feed_size;
 pub use numbers::varint_at;
 use spec::Answer;
 use spec::Decision;
-use spec::SizeNumbers;
 pub use walk::step;
 pub use walk::walk_feed;
 pub use walk::walk_run;
 ghost use mathlib.Core.Path.{_≡_};
-ghost use Rattle.spec.specs.Listing.{decide};
+ghost use Rattle.spec.specs.Listing.{decide, decisionSays};
 
 // What the board program does with a feed: its length first, then the size numbers, then 1, then the pixels.
 pub fn decide(feed: &[u8]) -> Decision
-    ensures { λ r. ⌜ r ≡ decide (now (feed .entry)) ⌝ }
+    ensures { λ r. ⌜ decisionSays r ≡ decisionSays (decide (now (feed .entry))) ⌝ }
 {
     if feed.len() > Decision::MAX_FEED {
         return Decision::TooLarge;
     }
-    match size_numbers(feed) {
-        SizeNumbers::Broken(answer) => Decision::EndLine(answer),
-        SizeNumbers::Sized(size, first) => {
-            if sizes::is_allowed(size) {
-                if size.width * size.height > Decision::MAX_SHOWN_PIXELS {
-                    return Decision::TooLarge;
-                }
-                return Decision::Board(size, first);
-            }
-            Decision::EndLine(Answer {
-                number: Answer::BAD_SIZE,
-                place: 0,
-                block: 0,
-            })
-        }
+    let own = feed_size(feed);
+    let answer = own.answer;
+    if answer.number != Answer::OK {
+        return Decision::EndLine(answer);
     }
+    let size = own.size;
+    if size.width * size.height > Decision::MAX_SHOWN_PIXELS {
+        return Decision::TooLarge;
+    }
+    Decision::Board(size, own.first)
 }

@@ -83,10 +83,11 @@ fn step_line(chunk: usize, step: Step) -> Line
     ensures { λ r. ⌜ drop (r .start) (r .text) ≡ stepLine chunk step ⌝ }
     ensures { λ r. ⌜ r .start ≤ length (r .text) ⌝ }
 {
-    match step {
-        Step::End(answer) => end_line(answer),
-        Step::Chunk(read, _) => chunk_line(chunk, read.answer, read.kept.unsettled),
+    let answer = step.answer;
+    if step.chunk {
+        return chunk_line(chunk, answer, step.kept.unsettled);
     }
+    end_line(answer)
 }
 
 // One step of a listing: its line, and the step of the walk.

@@ -3,13 +3,15 @@
 // raised when a function or a struct of it changes, and stays when functions are added.
 use spec::Answer;
 use spec::Count;
+use spec::FeedSize;
 use spec::Record;
 use spec::Recorded;
 use spec::Size;
+use spec::Step;
 use spec::Tally;
 ghost use mathlib.Core.Path.{_≡_};
 ghost use Rattle.spec.specs.Boards.{board, read};
-ghost use Rattle.spec.specs.Feeds.{walk, walkRun, tally};
+ghost use Rattle.spec.specs.Feeds.{feedSize, walk, walkRun, tally, walkStep};
 ghost use Rattle.spec.specs.Maps.{recordOf, freshMap, countMap};
 ghost use Rattle.spec.specs.Writing.{write};
 ghost use Rattle.sprite.specs.Symbols.{paintSymbol};
@@ -62,6 +64,14 @@ pub extern "C" fn seatboard_v2_write_chunk(
     smc_writer::write_chunk(size, old, new, out)
 }
 
+// Tells what a feed says of its size, so that a board can be made for it.
+#[no_mangle]
+pub extern "C" fn seatboard_v2_feed_size(feed: &[u8]) -> FeedSize
+    ensures { λ r. ⌜ r ≡ feedSize (now (feed .entry)) ⌝ }
+{
+    feed::feed_size(feed)
+}
+
 // Walks a feed over a lent picture and map, with their record.
 #[no_mangle]
 pub extern "C" fn seatboard_v2_walk_feed(
@@ -91,6 +101,22 @@ pub extern "C" fn seatboard_v2_walk_run(
     ensures { λ _. ⌜ now (map .exit) ≡ walkRun (kept .size) (now (run .entry)) (board (now (picture .entry)) (now (map .entry)) (kept .unsettled)) .board .map ⌝ }
 {
     feed::walk_run(kept, run, picture, map)
+}
+
+// One step of such a walk, from a place on.
+#[no_mangle]
+pub extern "C" fn seatboard_v2_walk_step(
+    kept: Record,
+    feed: &[u8],
+    at: usize,
+    picture: &mut [u8],
+    map: &mut [u16],
+) -> Step
+    ensures { λ r. ⌜ r ≡ walkStep (kept .size) (now (feed .entry)) at (board (now (picture .entry)) (now (map .entry)) (kept .unsettled)) .said ⌝ }
+    ensures { λ _. ⌜ now (picture .exit) ≡ walkStep (kept .size) (now (feed .entry)) at (board (now (picture .entry)) (now (map .entry)) (kept .unsettled)) .board .picture ⌝ }
+    ensures { λ _. ⌜ now (map .exit) ≡ walkStep (kept .size) (now (feed .entry)) at (board (now (picture .entry)) (now (map .entry)) (kept .unsettled)) .board .map ⌝ }
+{
+    feed::step(kept, feed, at, picture, map)
 }
 
 // Paints a frame of a sprite file on a picture.

@@ -6,7 +6,7 @@ ghost use mathlib.Core.Bool.{_&&_};
 ghost use lib.Dec.{eqb};
 ghost use Rattle.spec.specs.Answers.{ok, badLength};
 ghost use Rattle.spec.specs.Basics.{if};
-ghost use Rattle.spec.specs.Sizes.{side, allowed, pixels, blocks, blocksIn, sameSize, fault};
+ghost use Rattle.spec.specs.Sizes.{side, allowed, pixels, blocks, sameSize, fault};
 
 // Whether a picture's side may have this length, with `most` as its limit.
 fn is_side(most: usize, length: usize) -> bool
@@ -29,16 +29,6 @@ pub fn is_allowed(size: Size) -> bool
         return is_side(Size::MAX_HEIGHT, size.height);
     }
     false
-}
-
-// The blocks of a picture of this size, none where it is not allowed.
-pub fn blocks_in(size: Size) -> usize
-    ensures { λ r. ⌜ r ≡ blocksIn size ⌝ }
-{
-    if is_allowed(size) {
-        return size.width / 4 * (size.height / 4);
-    }
-    0
 }
 
 // 2 where a length is not the exact one, or 0.

@@ -1,5 +1,5 @@
 -- A block's pixels by its flags, row by row. Assumes nothing.
-use Prim.Native.Nat.{ℕ, _+_, _*_, _/_, _%_, _<_, _≤_}
+use Prim.Native.Nat.{ℕ, _+_, _/_, _%_, _<_, _≤_}
 use mathlib.Core.Path.{_≡_, refl, sym}
 use mathlib.Core.List.{List, [], _∷_, _++_, map-append}
 use native.Mathlib.Nat.{add-zero}
@@ -8,20 +8,13 @@ use lib.ListN.{length, getD}
 use Rattle.spec.specs.Basics.{part}
 use Rattle.spec.specs.Flags.{digits, flags, chosen}
 use Rattle.spec.proofs.Parts.{part-listed}
-use Rattle.spec.specs.Octets.{inRows}
 use Rattle.spec.proofs.Digits.{pair-flags, quad-flags}
-use Rattle.spec.proofs.Octets.{octet-flags}
-use Rattle.smc.proofs.RowsPut.{Four, four}
 
 -- the colours of four rows of flags, and of one
 pub chosen-rows : (cs a b c d ds : List ℕ) → ds ≡ a ++ b ++ c ++ d → chosen ds cs ≡ chosen a cs ++ chosen b cs ++ chosen c cs ++ chosen d cs
 chosen-rows cs a b c d ds e =
     let f : ℕ → ℕ = λ i. getD cs i 0 in
     rw (e, map-append f (a ++ b ++ c) d, map-append f (a ++ b) c, map-append f a b)
-
-pub four-chosen : (bits x : ℕ) (cs : List ℕ) → Four (chosen (digits bits 4 x) cs)
-unfolding digits
-four-chosen bits x cs = four
 
 pub quad-row : (t : List ℕ) (f : ℕ) → f < 256 → getD t (f / 64) 0 ∷ getD t (f / 16 % 4) 0 ∷ getD t (f / 4 % 4) 0 ∷ getD t (f % 4) 0 ∷ []
     ≡ chosen (digits 2 4 f) t
@@ -30,13 +23,6 @@ quad-row t f h =
     let q0 : f / 64 % 4 ≡ f / 64 = omega arith in
     let q3 : f / 1 % 4 ≡ f % 4 = omega arith in
     rw (q0, q3)
-
-pub octet-rows : (cs : List ℕ) (f0 f1 f2 f3 f4 f5 : ℕ) → f1 < 256 → f2 < 256 → f3 < 256 → f5 < 256
-    → inRows (λ f g. chosen (digits 3 4 (f * 16 + g)) cs) f0 f1 f2 f3 f4 f5 ≡ chosen (flags 3 (f0 ∷ f1 ∷ f2 ∷ f3 ∷ f4 ∷ f5 ∷ [])) cs
-octet-rows cs f0 f1 f2 f3 f4 f5 h1 h2 h3 h5 =
-    let row : ℕ → ℕ → List ℕ = λ f g. digits 3 4 (f * 16 + g) in
-    sym (chosen-rows cs (row f0 (f1 / 16)) (row f2 (f3 / 16)) (row f4 (f5 / 16)) (row (f1 % 16 * 16 + f3 % 16) (f5 % 16)) _
-    (octet-flags f0 f1 f2 f3 f4 f5 h1 h2 h3 h5))
 
 pub pair-rows : (cs : List ℕ) (f g : ℕ) → g < 256
     → chosen (digits 1 4 (f / 16)) cs ++ chosen (digits 1 4 (f % 16)) cs ++ chosen (digits 1 4 (g / 16)) cs ++ chosen (digits 1 4 (g % 16)) cs

@@ -3,9 +3,9 @@ use Prim.Native.Nat.{ℕ, _+_, _-_, _*_, _<_, _≤_}
 use mathlib.Core.Path.{_≡_, refl, sym, ap, _∙_}
 use mathlib.Core.Logic.{_≢_}
 use mathlib.Core.List.{List}
-use mathlib.Core.Bool.{Bool, true, false, true≢false, not, _&&_, _||_}
+use mathlib.Core.Bool.{Bool, true, false, true≢false, not, _||_}
 use native.Mathlib.Omega.{arith}
-use lib.Dec.{ltb, eqb}
+use lib.Dec.{ltb}
 use lib.ListN.{length}
 use borrow.Author.Tests.{ltb-true, ltb-false, lt-ltb, le-ltb}
 use Rattle.spec.specs.declared.Answer.{Answer}
@@ -85,7 +85,7 @@ module _ (z : Size) (s pic m : List ℕ) (kept : ℕ) where
 
     left-refused : (x : Outcome) → Numbered (blocks z) x → verdict s x .number ≢ ok
         → (let o = recounted (blocks z) lentBoard x in left (verdict s o) (effect z o lentBoard)) ≡ left (verdict s x) lentBoard
-    left-refused x (refused named n few) k = refl
+    left-refused x (refused named least few) k = refl
     left-refused x accepted k = absurd (k refl)
 
     -- the chunk's own refusals
@@ -96,7 +96,7 @@ module _ (z : Size) (s pic m : List ℕ) (kept : ℕ) where
         ∙ ap (λ (a : Answer). left a lentBoard) (sym ea)
 
     accepts : (x : Outcome) → Numbered (blocks z) x → verdict s x .number ≡ ok → Accepts x
-    accepts x (refused named n few) k = absurd (n k)
+    accepts x (refused named least few) k = absurd (omega (arith, least, k))
     accepts x (accepted {os}) k = record { os = os; is = refl }
 
     pub is-accepted : (a : Answer) → a ≡ verdict s (decode (blocks z) s) → a .number ≡ ok → Accepts (decode (blocks z) s)

@@ -7,6 +7,7 @@ ghost use Prim.Native.Nat.{_+_, _*_, _≤_, _<_};
 ghost use lib.ListN.{length};
 ghost use lib.Seq.{sets};
 ghost use Rattle.spec.specs.Flags.{digits, flags, chosen};
+ghost use Rattle.spec.specs.Octets.{rowByBytes};
 ghost use Rattle.spec.specs.Pictures.{putBlock};
 ghost use Rattle.blocks.specs.Blocks.{rowOf, pixels, Canvas};
 ghost use Rattle.smc.specs.Tables.{colours};
@@ -98,7 +99,7 @@ fn put_octet_row(pic: &mut [u8], p: usize, t: &[u8], f: u8, g: u8)
     requires { ⌜ p + 4 ≤ length (now pic) ⌝ }
     requires { ⌜ length (now t) ≡ colours 3 ⌝ }
     requires { ⌜ g < 16 ⌝ }
-    ensures { λ _. ⌜ now (pic .exit) ≡ sets (now (pic .entry)) p (chosen (digits 3 4 (f * 16 + g)) (now (t .entry))) ⌝ }
+    ensures { λ _. ⌜ now (pic .exit) ≡ sets (now (pic .entry)) p (chosen (rowByBytes f g) (now (t .entry))) ⌝ }
 {
     let a = f / 32;
     let b = f / 4 % 8;

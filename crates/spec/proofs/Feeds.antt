@@ -1,35 +1,31 @@
 -- The loop over the chunks of a feed: what may stand at a place, that its fuel never runs out, and what one step of a walk leaves to do.
 -- Assumes nothing.
 use Prim.Native.Nat.{ℕ, suc, _+_, _-_, _<_, _≤_}
-use mathlib.Core.Path.{_≡_, refl, subst, subst⁻¹}
+use mathlib.Core.Path.{_≡_, refl, sym, subst, subst⁻¹}
 use mathlib.Core.List.{List, [], _∷_}
-use mathlib.Core.Bool.{Bool, true, false}
+use mathlib.Core.Bool.{Bool, true, false, true≢false}
 use native.Mathlib.Omega.{arith}
 use lib.ListN.{length}
 use lib.Dec.{ltb}
 use borrow.Author.Tests.{ltb-true, ltb-false, le-ltb}
 use Rattle.spec.specs.declared.Answer.{Answer}
 use Rattle.spec.specs.declared.Size.{Size}
-use Rattle.spec.specs.declared.Recorded.{Recorded}
 use Rattle.spec.specs.declared.Varint.{Varint}
 use Rattle.spec.specs.declared.Varint.the-variants.{Bad, Value}
-use Rattle.spec.specs.declared.Next.{Next}
-use Rattle.spec.specs.declared.Next.the-variants as Next
 use Rattle.spec.specs.declared.Step.{Step}
-use Rattle.spec.specs.declared.Step.the-variants as Step
 use Rattle.spec.specs.Basics.{if}
-use Rattle.spec.specs.Answers.{ok, answer}
 use Rattle.spec.specs.Maps.{recordOf}
 use Rattle.spec.specs.Boards.{Board, Left, left, inTurn}
-use Rattle.spec.specs.Feeds.{varintAt, chunkAt, nextAt, Chunks, andOnward, chunksFrom, Reply, reply, readAll, stepBy, walkStep}
+use Rattle.spec.specs.Feeds as Feeds
+use Rattle.spec.specs.Feeds.{varintAt, Ending, Next, chunk, end, chunkAt, nextAt, Chunks, andOnward, chunksFrom, Reply, reply, readAll, stepBy}
 use Rattle.spec.proofs.Fuel.{by-fuel, fuel-end, fuel-enough, fuel-turn}
 use Rattle.spec.proofs.Lists.{by-test}
 use Rattle.spec.proofs.Varints.{Cut, short, Read, read-varint}
 
--- a walk ends with 0, 12 or 13
-pub data Ends : ℕ → Type 0 where
-  whole : Ends ok
-  cut : {e : ℕ} → Cut e → Ends e
+-- chunks end where the bytes do, or with 12 or 13
+pub data Ends (s : List ℕ) : Ending → Type 0 where
+  whole : Ends s (Feeds.whole (length s))
+  cut : {e at : ℕ} → Cut e → Ends s (Feeds.cut e at)
 
 -- a chunk that lies in the feed, behind its number
 pub record Lies (s : List ℕ) (at first past : ℕ) : Type 0 where
@@ -39,8 +35,8 @@ pub record Lies (s : List ℕ) (at first past : ℕ) : Type 0 where
 
 -- what is known of what stands at a place
 abbrev pub Stands : List ℕ → ℕ → Next → Type 0
-Stands s at (Next.End a) = Ends (a .number)
-Stands s at (Next.Chunk first past) = Lies s at first past
+Stands s at (end e) = Ends s e
+Stands s at (chunk first past) = Lies s at first past
 
 stands-chunk : (s : List ℕ) (at : ℕ) (x : Varint) → Read s at x → Stands s at (chunkAt s at x)
 stands-chunk s at (Bad e) c = cut c
@@ -54,13 +50,13 @@ unfolding nextAt
 stands s at = by-test (Stands s at) (ltb at (length s)) (λ t. stands-chunk s at (varintAt s at) (read-varint s at)) (λ t. whole)
 
 -- of a chunk that code was given
-pub chunk-lies : (s : List ℕ) (at : ℕ) {first past : ℕ} → nextAt s at ≡ Next.Chunk first past → Lies s at first past
+pub chunk-lies : (s : List ℕ) (at : ℕ) {first past : ℕ} → nextAt s at ≡ chunk first past → Lies s at first past
 chunk-lies s at e = subst (Stands s at) e (stands s at)
 
 same-onward : (f g : ℕ → Chunks) (s : List ℕ) (at : ℕ) (x : Next) → ((p : ℕ) → at < p → f p ≡ g p) → Stands s at x
     → andOnward f s at x ≡ andOnward g s at x
-same-onward f g s at (Next.End a) h e = refl
-same-onward f g s at (Next.Chunk first past) h l = rw (h past (omega arith))
+same-onward f g s at (end e) h k = refl
+same-onward f g s at (chunk first past) h l = rw (h past (omega arith))
 
 module _ (s : List ℕ) where
   feedLeft : ℕ → ℕ
@@ -98,46 +94,51 @@ module _ (s : List ℕ) where
         by true e = unroll-turn at e
         by false e = unroll-end at e
 
-ends-onward : (onward : ℕ → Chunks) (s : List ℕ) (at : ℕ) (x : Next) → ((p : ℕ) → Ends (onward p .ending .number)) → Stands s at x
-    → Ends (andOnward onward s at x .ending .number)
-ends-onward onward s at (Next.End a) h e = e
-ends-onward onward s at (Next.Chunk first past) h l = h past
+ends-onward : (onward : ℕ → Chunks) (s : List ℕ) (at : ℕ) (x : Next) → ((p : ℕ) → Ends s (onward p .ending)) → Stands s at x
+    → Ends s (andOnward onward s at x .ending)
+ends-onward onward s at (end e) h k = k
+ends-onward onward s at (chunk first past) h l = h past
 
-pub ends-chunks : (fuel : ℕ) (s : List ℕ) (at : ℕ) → Ends (chunksFrom fuel s at .ending .number)
+pub ends-chunks : (fuel : ℕ) (s : List ℕ) (at : ℕ) → Ends s (chunksFrom fuel s at .ending)
 unfolding chunksFrom
 ends-chunks fuel s at =
-    by-fuel _ _ _ (λ (at : ℕ). Unit {0}) (λ (cs : Chunks). Ends (cs .ending .number))
+    by-fuel _ _ _ (λ (at : ℕ). Unit {0}) (λ (cs : Chunks). Ends s (cs .ending))
     (λ onward at t u h. ends-onward onward s at (nextAt s at) (λ p. h p tt) (stands s at)) (λ at u. whole) fuel at tt
 
 -- a walk whose first chunk says a
 abbrev pub saidFirst : Answer → Left Reply → Left Reply
 saidFirst a l = left (reply (a ∷ l .said .inside) (l .said .answer)) (l .board)
 
--- What one step, over the board b, leaves to do of the chunks `cs`: those after it over the board that it left; or nothing
-pub record Onward (z : Size) (s : List ℕ) (fuel at : ℕ) (cs : Chunks) (b : Board) (r : Recorded) (past : ℕ) (after : Board) : Type 0 where
-  pub further : at < past
-  pub within : past ≤ length s
-  pub walked : readAll z cs b ≡ saidFirst (r .answer) (readAll z (chunksFrom fuel s past) after)
-  -- the record that was handed back is the board's
-  pub kept : r .kept ≡ recordOf z (after .kept)
+-- What one step behind 1 and 2, over the board b, leaves to do of the chunks `cs`: those after it over the board that it left; or nothing
+pub record Onward (z : Size) (s : List ℕ) (fuel at : ℕ) (cs : Chunks) (b : Board) (st : Step) (after : Board) : Type 0 where
+  pub further : at < st .next
+  pub within : st .next ≤ length s
+  pub walked : readAll z cs b ≡ saidFirst (st .answer) (readAll z (chunksFrom fuel s (st .next)) after)
 
-pub record Over (z : Size) (cs : Chunks) (b : Board) (a : Answer) (after : Board) : Type 0 where
-  pub walked : readAll z cs b ≡ left (reply [] a) after
-  pub kept : b .kept ≡ after .kept
+pub record Over (z : Size) (cs : Chunks) (b : Board) (st : Step) (after : Board) : Type 0 where
+  pub walked : readAll z cs b ≡ left (reply [] (st .answer)) after
+  pub same : after ≡ b
 
 module _ (z : Size) (s : List ℕ) (fuel : ℕ) where
-  abbrev pub Stepped : ℕ → Chunks → Board → Step → Board → Type 0
-  Stepped at cs b (Step.End a) after = Over z cs b a after
-  Stepped at cs b (Step.Chunk r past) after = Onward z s fuel at cs b r past after
+  -- the record that was handed back is the board's
+  pub record Stepped (at : ℕ) (cs : Chunks) (b : Board) (st : Step) (after : Board) : Type 0 where
+    pub kept : st .kept ≡ recordOf z (after .kept)
+    pub onward : st .chunk ≡ true → Onward z s fuel at cs b st after
+    pub over : st .chunk ≡ false → Over z cs b st after
 
   stepped-by : (at : ℕ) (b : Board) (x : Next) → Stands s at x
-      → Stepped at (andOnward (λ p. chunksFrom fuel s p) s at x) b (stepBy z s x b .said) (stepBy z s x b .board)
+      → Stepped at (andOnward (λ p. chunksFrom fuel s p) s at x) b (stepBy z s at x b .said) (stepBy z s at x b .board)
   unfolding inTurn
-  stepped-by at b (Next.End a) e = record { walked = refl; kept = refl }
-  stepped-by at b (Next.Chunk first past) l = record { further = omega arith; within = l .within; walked = refl; kept = refl }
+  stepped-by at b (end e) h = record { kept = refl; onward = λ t. absurd (true≢false (sym t)); over = λ t. record { walked = refl; same = refl } }
+  stepped-by at b (chunk first past) l =
+      record {
+        kept = refl;
+        onward = λ t. record { further = omega arith; within = l .within; walked = refl };
+        over = λ t. absurd (true≢false t);
+      }
 
-  pub stepped : length s ≤ fuel → (at : ℕ) (b : Board) → Stepped at (chunksFrom fuel s at) b (walkStep z s at b .said) (walkStep z s at b .board)
-  unfolding walkStep
+  pub stepped : length s ≤ fuel → (at : ℕ) (b : Board)
+      → Stepped at (chunksFrom fuel s at) b (stepBy z s at (nextAt s at) b .said) (stepBy z s at (nextAt s at) b .board)
   stepped h at b =
-      subst⁻¹ (λ (cs : Chunks). Stepped at cs b (stepBy z s (nextAt s at) b .said) (stepBy z s (nextAt s at) b .board)) (unroll-chunks s fuel h at)
-      (stepped-by at b (nextAt s at) (stands s at))
+      let st = stepBy z s at (nextAt s at) b in
+      subst⁻¹ (λ (cs : Chunks). Stepped at cs b (st .said) (st .board)) (unroll-chunks s fuel h at) (stepped-by at b (nextAt s at) (stands s at))

@@ -28,3 +28,5 @@ pub mod Runs
 pub mod Records
 pub mod Boards
 pub mod Listing
+pub mod Cutting
+pub mod Reached

@@ -11,7 +11,8 @@ use borrow.Author.Tests.{eq-eqb, eqb-true, leb-true}
 use Rattle.spec.specs.declared.Size.{Size}
 use Rattle.spec.specs.Basics.{if}
 use Rattle.spec.specs.Answers.{ok, badSize, badLength}
-use Rattle.spec.specs.Sizes.{side, maxWidth, maxHeight, maxColumns, maxLines, maxBlocks, maxPixels, allowed, pixels, columns, lines, blocks, blocksIn, sameSize, fault}
+use Rattle.spec.specs.Sizes.{side, maxWidth, maxHeight, maxColumns, maxLines, maxBlocks, maxPixels, allowed, pixels, columns, lines, blocks}
+use Rattle.spec.specs.Sizes.{sameSize, fault}
 use Rattle.spec.specs.Maps.{settled}
 use Rattle.spec.specs.Boards.{Board, Exact, exact}
 
@@ -72,14 +73,10 @@ area z e = let s = allowed-size z e in rw (s .width, s .height)
 pub exact-true : (z : Size) (b : Board) → Exact z b → exact z b ≡ true
 exact-true z b e = rw (eq-eqb (length (b .picture)) (pixels z) (e .picture), eq-eqb (length (b .map)) (blocks z) (e .map))
 
--- the blocks of an allowed size, and of another
-pub blocks-allowed : (z : Size) → allowed z ≡ true → blocksIn z ≡ blocks z
-unfolding blocksIn if
-blocks-allowed z a = rw a
-
-pub blocks-none : (z : Size) → allowed z ≡ false → blocksIn z ≡ 0
-unfolding blocksIn if
-blocks-none z a = rw a
+pub exact-known : (z : Size) (b : Board) → exact z b ≡ true → Exact z b
+exact-known z b t =
+    let both = and-eq-true-iff (eqb (length (b .picture)) (pixels z)) (eqb (length (b .map)) (blocks z)) .0 t in
+    record { picture = eqb-true _ _ (both .0); map = eqb-true _ _ (both .1) }
 
 -- 1 and 2, and where the size is allowed and the lengths are right, neither
 pub fault-size : (z : Size) (t : Bool) → allowed z ≡ false → fault z t ≡ badSize

@@ -1,17 +1,18 @@
--- Laws of choices, of lists, and of `from` and `Every`. Assumes nothing.
+-- Laws of choices, of lists, and of `from`, `Every` and `Among`. Assumes nothing.
 use Prim.Native.Nat.{ℕ, zero, suc, _+_, _<_, _≤_}
 use mathlib.Core.Path.{_≡_, refl, sym, ap, _∙_}
 use mathlib.Core.Logic.{_≢_}
 use mathlib.Core.List.{List, [], _∷_, _++_, map, map-append}
 use mathlib.Core.Bool.{Bool, true, false, and-eq-true-iff, true≢false}
 use native.Mathlib.Nat.{le-of-suc-le-suc, not-suc-le-zero, add-zero, zero-add, suc-add, add-suc}
+use native.Mathlib.Decide.{decLt}
 use native.Mathlib.Omega.{arith}
 use lib.Dec.{eqb}
 use lib.ListN.{length, getD, set, take, drop, replicate}
 use borrow.Author.Tests.{eq-eqb, eqb-true}
 use Rattle.spec.specs.declared.Answer.{Answer}
 use Rattle.spec.specs.Answers.{answer, checked}
-use Rattle.spec.specs.Basics.{if, from, same, Every, none, also}
+use Rattle.spec.specs.Basics.{if, from, same, Every, none, also, Among, here, there}
 
 -- a property of a choice: in each branch its test is known
 pub by-test {ℓ} : {A : Type ℓ} (P : A → Type 0) (b : Bool) {x y : A} → (b ≡ true → P x) → (b ≡ false → P y) → P (if b x y)
@@ -169,3 +170,12 @@ same-lists (x ∷ xs) (y ∷ ys) t =
 pub same-self : (l : List ℕ) → same l l ≡ true
 same-self [] = refl
 same-self (x ∷ l) = rw (eq-eqb x x refl, same-self l)
+
+-- a number in a range is one of the range's
+pub among-from : (a m x : ℕ) → a ≤ x → x < a + m → Among x (from a m)
+among-from a zero x l h = absurd (omega arith)
+among-from a (suc m) x l h = by (decLt a x) (λ more. among-from (suc a) m x more (omega arith))
+  where
+    by : Dec (a < x) → (a < x → Among x (from (suc a) m)) → Among x (from a (suc m))
+    by (yes more) f = there (f more)
+    by (no same) f = let e : a ≡ x = omega arith in rw e here

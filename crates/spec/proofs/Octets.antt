@@ -1,5 +1,5 @@
--- The octet step: a row by bytes, four rows, and both. The proofs of the reader's octet step go by the first two. What a row takes is asked of
--- `inRows`, not written again: were it another, the numbers would not agree. Assumes nothing.
+-- The octet step: a row by bytes, four rows, and both, which the proof of the reader's octet step goes by. What a row takes is asked of `inRows`,
+-- not written again: were it another, the numbers would not agree. Assumes nothing.
 use Prim.Native.Nat.{ℕ, _+_, _*_, _/_, _%_, _<_}
 use mathlib.Core.Path.{_≡_, sym, ap, _∙_}
 use mathlib.Core.List.{List, [], _∷_, _++_, append-assoc}
@@ -11,7 +11,7 @@ use Rattle.spec.specs.Octets.{rowByBytes, inRows, OctetStep}
 use Rattle.spec.proofs.Digits.{digits-split}
 
 -- a row's indices are the digits of its byte and half-byte
-pub octet-row : (f g : ℕ) → f < 256 → g < 16 → rowByBytes f g ≡ digits 3 4 (f * 16 + g)
+octet-row : (f g : ℕ) → f < 256 → g < 16 → rowByBytes f g ≡ digits 3 4 (f * 16 + g)
 unfolding digits
 octet-row f g hf hg =
     let q0 : f / 32 ≡ (f * 16 + g) / 512 % 8 = omega arith in
@@ -24,7 +24,7 @@ octet-row f g hf hg =
 two-rows : (x y : ℕ) → y < 4096 → digits 3 8 (x * 4096 + y) ≡ digits 3 4 x ++ digits 3 4 y
 two-rows x y h = digits-split 3 4 4 x y h
 
-pub octet-flags : (f0 f1 f2 f3 f4 f5 : ℕ) → f1 < 256 → f2 < 256 → f3 < 256 → f5 < 256
+octet-flags : (f0 f1 f2 f3 f4 f5 : ℕ) → f1 < 256 → f2 < 256 → f3 < 256 → f5 < 256
     → flags 3 (f0 ∷ f1 ∷ f2 ∷ f3 ∷ f4 ∷ f5 ∷ []) ≡ inRows (λ f g. digits 3 4 (f * 16 + g)) f0 f1 f2 f3 f4 f5
 unfolding flags if upper24 lower24
 octet-flags f0 f1 f2 f3 f4 f5 h1 h2 h3 h5 =

@@ -1,20 +1,29 @@
 -- A house number that is read: refused with 12 or 13, or a value within the limit, and a place further on in the feed; and the two size numbers.
 -- Assumes nothing.
 use Prim.Native.Nat.{ℕ, zero, suc, _+_, _*_, _<_, _≤_}
-use mathlib.Core.Path.{_≡_, refl, subst}
+use mathlib.Core.Path.{_≡_, refl, sym, ap, subst, _∙_}
 use mathlib.Core.Logic.{_≢_}
 use mathlib.Core.List.{List}
 use native.Mathlib.Omega.{arith}
 use lib.Dec.{leb}
 use lib.ListN.{length, getD}
 use borrow.Author.Tests.{ltb-false, leb-false}
-use Rattle.spec.specs.declared.SizeNumbers.{SizeNumbers}
-use Rattle.spec.specs.declared.SizeNumbers.the-variants.{Broken, Sized}
 use Rattle.spec.specs.declared.Varint.{Varint}
 use Rattle.spec.specs.declared.Varint.the-variants.{Bad, Value}
 use Rattle.spec.specs.Answers.{ok, badVarint, feedCut}
-use Rattle.spec.specs.Feeds.{maxNumber, groups, varintAt, withLines, withColumns, sizeNumbers}
+use Rattle.spec.specs.Feeds.{maxNumber, groups, varintAt, varintSays, SizeNumbers, failing, both, withLines, withColumns, sizeNumbers}
 use Rattle.spec.proofs.Lists.{by-test}
+
+-- numbers that say the same are the same
+pub varint-same : (x y : Varint) → varintSays x ≡ varintSays y → x ≡ y
+varint-same (Bad e) (Bad f) h = ap (λ (l : List ℕ). Bad (getD l 0 0)) h
+varint-same (Bad e) (Value v p) h = absurd (omega (arith, ap length h))
+varint-same (Value v p) (Bad e) h = absurd (omega (arith, ap length h))
+varint-same (Value v p) (Value w q) h = ap (λ (l : List ℕ). Value (getD l 1 0) (getD l 2 0)) h
+
+-- what a reading at a place has found, by what it says
+pub found-number : (s : List ℕ) (at : ℕ) {x y : Varint} → varintSays x ≡ varintSays (varintAt s at) → x ≡ y → varintAt s at ≡ y
+found-number s at {x} says e = sym (varint-same x (varintAt s at) says) ∙ e
 
 pub data Cut : ℕ → Type 0 where
   badly : Cut badVarint
@@ -55,8 +64,8 @@ varint-got s at e = subst (Read s at) e (read-varint s at)
 
 -- size numbers fail with 12 or 13, at block 0, or end within the feed
 abbrev pub Numbered : List ℕ → SizeNumbers → Type 0
-Numbered s (Broken a) = Cut (a .number) × (a .block ≡ 0)
-Numbered s (Sized z p) = p ≤ length s
+Numbered s (failing a) = Cut (a .number) × (a .block ≡ 0)
+Numbered s (both z p) = p ≤ length s
 
 numbered-lines : (s : List ℕ) (c at : ℕ) (x : Varint) → Read s at x → Numbered s (withLines c at x)
 numbered-lines s c at (Bad e) r = (r, refl)

@@ -98,8 +98,9 @@ answerAt number place block = record { number = number; place = place; block = b
 abbrev pub answer : ℕ → ℕ → Answer
 answer number place = answerAt number place 0
 
--- The block that goes with each number in what reads or writes chunks, for n blocks (trust/specs/Stops): with 0 and 11 the number of
--- blocks, with 5 to 10 one of them, the first still waiting at that place (that it is the first, `Chunks` says), with all others 0
+-- The block that goes with each number in what reads or writes chunks, for n blocks (trust/specs/Stops): with 0 and 11 the number of blocks,
+-- with 5 to 10 one of them, the first still waiting at that place (trust/specs/Waiting), with all others 0. Which numbers a call can answer with,
+-- trust/specs/Numbers says
 pub data Stopped (n : ℕ) : Answer → Type 0 where
   done : {place : ℕ} → Stopped n (answerAt ok place n)
   follows : {place : ℕ} → Stopped n (answerAt bytesFollow place n)

@@ -41,3 +41,8 @@ same xs ys = sameBy eqb xs ys
 pub data Every {ℓ} {A : Type ℓ} (P : A → Type 0) : List A → Type ℓ where
   none : Every P []
   also : {x : A} {xs : List A} → P x → Every P xs → Every P (x ∷ xs)
+
+-- it is one of these
+pub data Among {A : Type 0} (x : A) : List A → Type 0 where
+  here : {xs : List A} → Among x (x ∷ xs)
+  there : {y : A} {xs : List A} → Among x xs → Among x (y ∷ xs)

@@ -7,12 +7,11 @@ use lib.Dec.{eqb}
 use lib.ListN.{length}
 use Rattle.spec.specs.declared.Answer.{Answer}
 use Rattle.spec.specs.declared.Size.{Size}
-use Rattle.spec.specs.declared.Recorded.{Recorded}
 use Rattle.spec.specs.Basics.{if}
 use Rattle.spec.specs.Answers.{badCount, answer, checked}
 use Rattle.spec.specs.Sizes.{pixels, columns, lines, blocks, fault}
 use Rattle.spec.specs.Pictures.{Origin, paint}
-use Rattle.spec.specs.Maps.{remap, unsettled, recount, miscounts, recordOf}
+use Rattle.spec.specs.Maps.{remap, unsettled, recount, miscounts}
 use Rattle.spec.specs.Chunks.{Outcome, refused, accepted, decode, verdict}
 
 -- a picture and a map that are lent, and the count of the record that is lent with them: any number, it may be untrue to the map. Its size
@@ -32,10 +31,6 @@ pub record Left (R : Type 0) : Type 0 where
 
 abbrev pub left : {R : Type 0} → R → Board → Left R
 left a b = record { said = a; board = b }
-
--- what it hands back, where it says an answer: that, and the record of the lent size as it is then
-abbrev pub recorded : Size → Left Answer → Recorded
-recorded z l = record { answer = l .said; kept = recordOf z (l .board .kept) }
 
 -- "a picture and a map of exactly its lengths": as a fact, and as the test that 2 is given by
 pub record Exact (z : Size) (b : Board) : Type 0 where

@@ -3,7 +3,7 @@
 use Prim.Native.Nat.{ℕ, zero, suc, _+_, _-_, _*_, _/_, _%_}
 use mathlib.Core.Path.{_≡_, refl}
 use mathlib.Core.List.{List, [], _∷_, _++_, map}
-use mathlib.Core.Bool.{true}
+use mathlib.Core.Bool.{true, false}
 use lib.ListN.{length, drop, replicate}
 use Rattle.spec.specs.declared.Answer.{Answer}
 use Rattle.spec.specs.Basics.{from}
@@ -13,7 +13,8 @@ use Rattle.spec.specs.Pictures.{given, held}
 use Rattle.spec.specs.Maps.{settled, fresh, unsettled}
 use Rattle.spec.specs.Feeds.{Reply, reply}
 use Rattle.spec.specs.Calls.{reading, walking, walkingRun}
-use Rattle.spec.specs.Rows.{Row, octet, sequence, lent, lastGiven, readLengths, runLengths, writeLengths, maps, writes, encodes, varint, noVarint, places, prints, size, of, holds, hold}
+use Rattle.spec.specs.Rows.{Row, octet, sequence, lent, lastGiven, fills, readLengths, runLengths, writeLengths, maps, writes, encodes, atMost}
+use Rattle.spec.specs.Rows.{varint, noVarint, places, sized, steps, prints, size, of, holds, hold}
 
 -- a chunk read over a starting picture and a fresh map
 abbrev pub reads : ℕ → ℕ → List ℕ → List ℕ → ℕ → ℕ → ℕ → List ℕ → List ℕ → Row
@@ -134,7 +135,7 @@ further =
     ∷ reads 24 4 (of 96 9) (chunk (0x60 ∷ 0x05 ∷ 0x60 ∷ 0x06 ∷ 0x5C ∷ 0x01 ∷ [])) 0 10 6 (line (5 ∷ 6 ∷ 5 ∷ 6 ∷ 5 ∷ 6 ∷ [])) (of 6 settled)
     ∷ refuses 16 4 (chunk (0x60 ∷ 0x05 ∷ 0x30 ∷ [])) 6 6 1
     ∷ refuses 20 4 (chunk (0x60 ∷ 0x05 ∷ 0x60 ∷ 0x06 ∷ 0x50 ∷ 0x01 ∷ [])) 9 8 2
-    -- 9, B and D name entry 1 of 2; entry 2 is not filled, nor is one that only another table has
+    -- 9, B and D name entry 1 of 2; entry 2 is not filled, nor is one that only another table has, nor an octet where none was stored
     ∷ reads 12 4 (of 48 0) (chunk (0x80 ∷ 0x01 ∷ 0x02 ∷ 0x00 ∷ 0x00 ∷ 0x80 ∷ 0x03 ∷ 0x04 ∷ 0xFF ∷ 0xFF ∷ 0x90 ∷ 0x01 ∷ 0x00 ∷ 0x00 ∷ [])) 0 18 3 (line (1 ∷ 4 ∷ 3 ∷ [])) (of 3 settled)
     ∷ reads 12 4 (of 48 0)
     (chunk (0xA0 ∷ 0x01 ∷ 0x02 ∷ 0x03 ∷ 0x04 ∷ 0x00 ∷ 0x00 ∷ 0x00 ∷ 0x00 ∷ 0xA0 ∷ 0x05 ∷ 0x06 ∷ 0x07 ∷ 0x08 ∷ 0xFF ∷ 0xFF ∷ 0xFF ∷ 0xFF ∷ 0xB0 ∷ 0x01 ∷ 0x55 ∷ 0x55 ∷ 0x55 ∷ 0x55 ∷ []))
@@ -144,11 +145,21 @@ further =
     0 42 3 (line (1 ∷ 16 ∷ 9 ∷ [])) (of 3 settled)
     ∷ refuses 12 4 (chunk (0x80 ∷ 0x01 ∷ 0x02 ∷ 0x00 ∷ 0x00 ∷ 0x80 ∷ 0x03 ∷ 0x04 ∷ 0xFF ∷ 0xFF ∷ 0x90 ∷ 0x02 ∷ 0x00 ∷ 0x00 ∷ [])) 10 14 2
     ∷ refuses 12 4 (chunk (0x80 ∷ 0x01 ∷ 0x02 ∷ 0x00 ∷ 0x00 ∷ 0xB0 ∷ 0x00 ∷ 0xFF ∷ 0xFF ∷ [])) 10 9 1
-    -- the order within an opcode: the count byte (6) before 8, 8 before 9, 9 before the colours (6), the entry number (6) before 10, flags (6)
+    ∷ refuses 4 4 (chunk (0xD0 ∷ 0x00 ∷ [])) 10 4 0
+    -- a count byte of FF is 256 blocks, a lower half-byte of F 16
+    ∷ lastGiven 256 (chunk (0x70 ∷ 0xFF ∷ 0x05 ∷ [])) (of 16 5)
+    ∷ lastGiven 16 (chunk (0x6F ∷ 0x05 ∷ [])) (of 16 5)
+    -- the order within an opcode: 7 before 9, the count byte (6) before 8 and before 9, 8 before 9, also in pairs at blocks 0 and 1, 9 before the
+    -- colours (6) and before 10, the entry number (6) before 10, flags (6)
+    ∷ refuses 4 4 (chunk (0xF1 ∷ [])) 7 4 0
     ∷ refuses 4 4 (chunk (0x30 ∷ [])) 6 4 0
+    ∷ refuses 12 4 (chunk (0x60 ∷ 0x05 ∷ 0x60 ∷ 0x06 ∷ 0x50 ∷ [])) 6 8 2
     ∷ refuses 4 4 (chunk (0x30 ∷ 0xFF ∷ [])) 8 4 0
+    ∷ refuses 4 4 (chunk (0x50 ∷ 0x00 ∷ [])) 8 4 0
     ∷ refuses 8 4 (chunk (0x60 ∷ 0x05 ∷ 0x40 ∷ [])) 8 6 1
     ∷ refuses 4 4 (chunk (0x81 ∷ [])) 9 4 0
+    ∷ refuses 4 4 (chunk (0xE1 ∷ [])) 9 4 0
+    ∷ refuses 4 4 (chunk (0x91 ∷ 0x00 ∷ [])) 9 4 0
     ∷ refuses 4 4 (chunk (0x90 ∷ [])) 6 4 0
     ∷ refuses 4 4 (chunk (0x80 ∷ 0x01 ∷ 0x02 ∷ 0xFF ∷ [])) 6 4 0
     -- the first block still waiting: where the bytes end after one opcode, in the count byte, the colours, the flags of an opcode's second
@@ -170,21 +181,30 @@ further =
     ∷ refuses 4 4 (chunk (0x00 ∷ 0x00 ∷ 0x00 ∷ 0x10 ∷ [])) 11 5 1
     ∷ refuses 4 4 (chunk (0x00 ∷ 0x01 ∷ 0x00 ∷ 0x00 ∷ [])) 11 5 1
     ∷ refuses 4 4 (chunk (0x00 ∷ 0x00 ∷ 0xFF ∷ 0x00 ∷ [])) 11 5 1
-    -- a chunk of three bytes; the stated length's highest byte; lengths: where size and lengths are right, an empty chunk gets 3 and an empty output 14
+    -- a chunk of three bytes; the stated length's highest byte; a stated length below the bytes given, and it comes before what the opcodes get
     ∷ refuses 4 4 (0xE1 ∷ 0x00 ∷ 0x03 ∷ []) 3 0 0
     ∷ refuses 4 4 (0xE1 ∷ 0x01 ∷ 0x00 ∷ 0x05 ∷ 0x00 ∷ []) 4 0 0
+    ∷ refuses 4 4 (0xE1 ∷ 0x00 ∷ 0x00 ∷ 0x04 ∷ 0xF0 ∷ []) 4 0 0
+    -- heights are looked at as widths are: 4x6 and 4x0 get 1; what the limits make: 4,000 blocks, for which the writer's chunk has 68,004 bytes at most
+    ∷ sizes 4 6 1 ++ sizes 4 0 1
+    ++ atMost 4000 68004
+    -- lengths: where size and lengths are right, an empty chunk gets 3 and an empty output 14
     ∷ readLengths 8 4 32 2 3
     ∷ readLengths 8 4 31 2 2
     ∷ readLengths 8 4 32 3 2
     ∷ writeLengths 8 4 32 32 14
     ∷ writeLengths 8 4 31 32 2
     ∷ writeLengths 8 4 32 33 2
-    -- a fresh map with its record, and a count, over any numbers; refused
-    ∷ maps 8 4 (7 ∷ settled ∷ []) 0 (0 ∷ 1 ∷ []) 2 1
+    -- a fresh map with its record, and a count, over any numbers: 65,535 alone is settled; refused
+    ∷ maps 8 4 (7 ∷ 65535 ∷ []) 0 (0 ∷ 1 ∷ []) 2 1
+    ∷ maps 4 4 (65534 ∷ []) 0 (0 ∷ []) 1 1
     ∷ maps 8 4 (7 ∷ settled ∷ 7 ∷ []) 2 (7 ∷ settled ∷ 7 ∷ []) 0 0
     -- a pair table stored 257 times: entry 0 holds the last pair, and entry 1 the second
     ∷ lastGiven 258 (0xE1 ∷ 0x00 ∷ 0x05 ∷ 0x0D ∷ pairs 0 257 ++ 0x90 ∷ 0x00 ∷ 0xFF ∷ 0xFF ∷ []) (of 16 1)
     ∷ lastGiven 258 (0xE1 ∷ 0x00 ∷ 0x05 ∷ 0x0D ∷ pairs 0 257 ++ 0x90 ∷ 0x01 ∷ 0x00 ∷ 0x00 ∷ []) (of 16 1)
+    -- and quads and octets: 256 entries are filled, and entry 1 is next
+    ∷ fills 4 257 256 1
+    ∷ fills 8 257 256 1
     -- a settled block is unsettled by a copy, and the count rises
     ∷ sequence 8 4 (line (1 ∷ 2 ∷ [])) (reading (chunk (0x00 ∷ 0x60 ∷ 0x05 ∷ [])) ∷ [])
     (reply [] (answerAt 0 7 2) ∷ []) (line (1 ∷ 5 ∷ [])) (0 ∷ settled ∷ []) 1
@@ -216,6 +236,8 @@ further =
     -- it is looked for last: a chunk's own refusals come before it
     ∷ unmoved (of 2 settled) 3 (0x02 ∷ []) 9 4 0
     ∷ unmoved (of 2 settled) 3 (0x01 ∷ 0xAA ∷ []) 11 5 2
+    ∷ lent 8 4 (of 32 9) (of 2 settled) 3 (reading [] ∷ reading (0xE1 ∷ 0x00 ∷ 0x00 ∷ 0x06 ∷ 0x01 ∷ []) ∷ reading (chunk (0x00 ∷ [])) ∷ [])
+    (reply [] (answerAt 3 0 0) ∷ reply [] (answerAt 4 0 0) ∷ reply [] (answerAt 5 5 1) ∷ []) (of 32 9) (of 2 settled) 3
     -- inside a run it is that chunk's answer: the run goes on over what was there, and does not count it as accepted
     ∷ lent 8 4 (of 32 9) (0 ∷ settled ∷ []) 0
     (walkingRun (0x06 ∷ chunk (0x61 ∷ 0x05 ∷ []) ++ 0x06 ∷ chunk (0x00 ∷ 0x20 ∷ []) ++ 0x06 ∷ chunk (0x61 ∷ 0x05 ∷ [])) ∷ [])
@@ -227,10 +249,14 @@ further =
     (reply (answerAt 0 6 2 ∷ []) (answerAt 0 9 2) ∷ []) (of 32 5) (of 2 settled) 0
     ∷ lent 6 4 (of 32 9) (0 ∷ 1 ∷ []) 2 (walking (0x02 ∷ 0x01 ∷ []) ∷ walking (0x51 ∷ 0x01 ∷ []) ∷ reading [] ∷ walkingRun [] ∷ [])
     (reply [] (answerAt 2 0 0) ∷ reply [] (answerAt 1 0 0) ∷ reply [] (answerAt 1 0 0) ∷ reply [] (answerAt 1 0 0) ∷ []) (of 32 9) (0 ∷ 1 ∷ []) 2
-    -- numbers: the greatest, one above it, a fourth group with its top bit, and one that the bytes cut short
+    -- numbers: four groups, each another; the greatest, and one above it; a fourth group with its top bit; a third and a fourth that are zero; one that the
+    -- bytes cut short
+    ∷ varint (0x81 ∷ 0x82 ∷ 0x83 ∷ 0x04 ∷ []) 8438017 4
     ∷ varint (0xFF ∷ 0xFF ∷ 0xFF ∷ 0x07 ∷ []) 16777215 4
     ∷ noVarint (0x80 ∷ 0x80 ∷ 0x80 ∷ 0x08 ∷ []) 12
     ∷ noVarint (0x80 ∷ 0x80 ∷ 0x80 ∷ 0x80 ∷ []) 12
+    ∷ noVarint (0x80 ∷ 0x80 ∷ 0x00 ∷ []) 12
+    ∷ noVarint (0x80 ∷ 0x80 ∷ 0x80 ∷ 0x00 ∷ []) 12
     ∷ noVarint (0x80 ∷ 0x80 ∷ 0x80 ∷ []) 13
     ∷ noVarint [] 13
     -- feeds: width first; a chunk length of 0; an end inside a chunk, after a good one; sizes that get 1, and 2; a size number cut short
@@ -241,6 +267,11 @@ further =
     (reply (answerAt 0 6 2 ∷ []) (answerAt 13 10 0) ∷ []) (of 32 5) (of 2 settled) 0
     ∷ sequence 8 4 (of 32 9) (walking (0x51 ∷ 0x32 ∷ []) ∷ walking (0x03 ∷ 0x01 ∷ 0x05 ∷ 0xE1 ∷ 0x00 ∷ 0x00 ∷ 0x05 ∷ 0x02 ∷ []) ∷ walking (0x02 ∷ 0x80 ∷ []) ∷ [])
     (reply [] (answerAt 1 0 0) ∷ reply [] (answerAt 2 0 0) ∷ reply [] (answerAt 13 1 0) ∷ []) (of 32 9) (0 ∷ 1 ∷ []) 2
+    -- 1 and 2 before a length number that fails, in a feed and in a run
+    ∷ sequence 8 4 (of 32 9) (walking (0x51 ∷ 0x01 ∷ 0x80 ∷ []) ∷ walking (0x03 ∷ 0x01 ∷ 0x80 ∷ []) ∷ [])
+    (reply [] (answerAt 1 0 0) ∷ reply [] (answerAt 2 0 0) ∷ []) (of 32 9) (0 ∷ 1 ∷ []) 2
+    ∷ lent 6 4 (of 24 9) [] 0 (walkingRun (0x80 ∷ []) ∷ []) (reply [] (answerAt 1 0 0) ∷ []) (of 24 9) [] 0
+    ∷ lent 8 4 (of 31 9) (0 ∷ 1 ∷ []) 2 (walkingRun (0x80 ∷ []) ∷ []) (reply [] (answerAt 2 0 0) ∷ []) (of 31 9) (0 ∷ 1 ∷ []) 2
     -- a padded chunk in a feed: the next one's number stands behind the padding
     ∷ sequence 8 4 (of 32 9) (walking (0x02 ∷ 0x01 ∷ 0x09 ∷ chunk (0x61 ∷ 0x05 ∷ of 3 0x00) ++ 0x06 ∷ chunk (0x00 ∷ 0x20 ∷ [])) ∷ [])
     (reply (answerAt 0 9 2 ∷ answerAt 0 6 2 ∷ []) (answerAt 0 19 2) ∷ []) (of 32 5) (of 2 settled) 0
@@ -255,6 +286,12 @@ further =
     -- a chunk is read over what the one before it left; the first and the last are refused
     ∷ sequence 8 4 (of 32 9) (walkingRun (0x00 ∷ 0x08 ∷ chunk (0x60 ∷ 0x01 ∷ 0x60 ∷ 0x02 ∷ []) ++ 0x06 ∷ chunk (0x00 ∷ 0x20 ∷ []) ++ 0x05 ∷ chunk (0xF0 ∷ [])) ∷ [])
     (says (answerAt 3 0 0 ∷ answerAt 0 8 2 ∷ answerAt 0 6 2 ∷ answerAt 7 4 0 ∷ []) 2 (answerAt 0 23 2) ∷ []) (line (1 ∷ 1 ∷ [])) (of 2 settled) 0
+    -- chunks that get 4, 6 and 8 to 11: none ends the run, and none is counted as accepted
+    ∷ sequence 4 4 (of 16 9)
+    (walkingRun (0x05 ∷ 0xE1 ∷ 0x00 ∷ 0x00 ∷ 0x06 ∷ 0x00 ∷ 0x05 ∷ chunk (0x10 ∷ []) ++ 0x05 ∷ chunk (0x20 ∷ []) ++ 0x05 ∷ chunk (0x01 ∷ [])
+    ++ 0x06 ∷ chunk (0x90 ∷ 0x00 ∷ []) ++ 0x06 ∷ chunk (0x00 ∷ 0xAA ∷ [])) ∷ [])
+    (says (answerAt 4 0 0 ∷ answerAt 6 4 0 ∷ answerAt 8 4 0 ∷ answerAt 9 4 0 ∷ answerAt 10 4 0 ∷ answerAt 11 5 1 ∷ []) 0 (answerAt 0 38 1) ∷ [])
+    (of 16 9) (0 ∷ []) 1
     -- the number is badly formed, cut short, or has fewer bytes behind it: what was accepted before stays, and is counted
     ∷ sequence 8 4 (of 32 9) (walkingRun (0x07 ∷ chunk (0x00 ∷ 0x60 ∷ 0x05 ∷ []) ++ 0x80 ∷ 0x00 ∷ []) ∷ [])
     (says (answerAt 0 7 2 ∷ []) 1 (answerAt 12 8 0) ∷ []) (line (9 ∷ 5 ∷ [])) (0 ∷ settled ∷ []) 1
@@ -272,12 +309,27 @@ further =
     ∷ runLengths 6 4 24 2 (says [] 0 (answerAt 1 0 0))
     -- the places of the chunks of 01's listing: each one's number, its first byte, and after its last
     ∷ places listingFeed 2 (2 ∷ 3 ∷ 9 ∷ 9 ∷ 10 ∷ 14 ∷ 14 ∷ 15 ∷ 21 ∷ [])
+    -- what a feed says of its size: 8x4; 324x4, which gets 1; a first number that fails, and a second
+    ∷ sized listingFeed (answerAt 0 0 0) 8 4 2
+    ∷ sized (0x51 ∷ 0x01 ∷ 0x00 ∷ []) (answerAt 1 0 0) 0 0 0
+    ∷ sized (0x80 ∷ 0x00 ∷ 0x01 ∷ []) (answerAt 12 0 0) 0 0 0
+    ∷ sized (0x02 ∷ 0x80 ∷ []) (answerAt 13 1 0) 0 0 0
+    -- steps: an accepted chunk and a refused one; one that is cut; at the end, and past it; 1 and 2 come first
+    ∷ steps 8 4 (of 32 0) listingFeed 2 (answerAt 0 6 2) true 9
+    ∷ steps 8 4 (of 32 0) listingFeed 9 (answerAt 5 4 0) true 14
+    ∷ steps 8 4 (of 32 0) listingFeed 20 (answerAt 13 21 0) false 20
+    ∷ steps 8 4 (of 32 0) listingFeed 21 (answerAt 0 21 2) false 21
+    ∷ steps 8 4 (of 32 0) listingFeed 30 (answerAt 0 21 2) false 30
+    ∷ steps 6 4 (of 24 0) listingFeed 2 (answerAt 1 0 0) false 2
+    ∷ steps 8 4 (of 31 0) listingFeed 30 (answerAt 2 0 0) false 30
     -- the board program: no bytes; an empty chunk; a feed that ends where a chunk would start; a copy that unsettles, and numbers of two digits
     ∷ prints [] "end 13 0\n"
     ∷ prints (0x02 ∷ 0x01 ∷ 0x00 ∷ []) "board 8 4\n1 3 0 2 0\nend 0 3\n"
     ∷ prints (0x02 ∷ 0x01 ∷ 0x05 ∷ []) "board 8 4\nend 13 3\n"
     ∷ prints (0x03 ∷ 0x01 ∷ 0x07 ∷ chunk (0x00 ∷ 0x61 ∷ 0x05 ∷ []) ++ 0x07 ∷ chunk (0x00 ∷ 0x20 ∷ 0x00 ∷ []) ++ 0x05 ∷ chunk (0xF0 ∷ []))
     "board 12 4\n1 0 7 1 3\n2 0 7 2 3\n3 7 4 2 0\nend 0 24\n"
+    -- a place of five digits: a chunk of 10,000 zero bytes
+    ∷ prints (0x01 ∷ 0x01 ∷ 0x90 ∷ 0x4E ∷ of 10000 0) "board 4 4\n1 4 0 1 0\nend 0 10004\n"
     -- five numbers, each another
     ∷ prints (0x03 ∷ 0x01 ∷ 0x06 ∷ chunk (0x00 ∷ 0x00 ∷ [])) "board 12 4\n1 5 6 3 2\nend 0 9\n"
     -- its limits: a size that gets 1; a size number that fails; 16,000 pixels and 16,016; 32,768 bytes and 32,769, before a bad number is looked at
@@ -302,6 +354,7 @@ further =
     ∷ encodes (map held (from 0 16)) (0x0F ∷ [])
     ∷ encodes (replicate 256 (given (of 16 5))) (0x70 ∷ 0xFF ∷ 5 ∷ [])
     ∷ encodes (replicate 257 (given (of 16 5))) (0x70 ∷ 0xFF ∷ 5 ∷ 0x60 ∷ 5 ∷ [])
+    ∷ encodes (map held (from 0 257)) (0x10 ∷ 0xFF ∷ 0x00 ∷ [])
     -- the writer's runs: 17 of one colour; 17 skipped; an unchanged block ends a run even where it has the run's colour
     ∷ writes 68 4 (of 272 0) (of 272 5) (chunk (0x70 ∷ 0x10 ∷ 0x05 ∷ []))
     ∷ writes 68 4 (of 272 5) (of 272 5) (chunk (0x10 ∷ 0x10 ∷ []))

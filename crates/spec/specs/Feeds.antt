@@ -1,25 +1,22 @@
 -- 01, "The house feed": numbers, the chunks of a feed, the walk, and that of a run of chunks. Assumes nothing.
 use Prim.Native.Nat.{ℕ, zero, suc, _+_, _-_, _*_}
 use mathlib.Core.List.{List, [], _∷_, map}
-use mathlib.Core.Bool.{_&&_}
+use mathlib.Core.Bool.{true, false, _&&_}
 use lib.Dec.{leb, ltb, eqb}
 use lib.ListN.{length, getD}
 use Rattle.spec.specs.declared.Answer.{Answer}
 use Rattle.spec.specs.declared.Size.{Size}
 use Rattle.spec.specs.declared.Tally.{Tally}
+use Rattle.spec.specs.declared.Record.{Record}
 use Rattle.spec.specs.declared.Varint.{Varint}
 use Rattle.spec.specs.declared.Varint.the-variants.{Bad, Value}
-use Rattle.spec.specs.declared.SizeNumbers.{SizeNumbers}
-use Rattle.spec.specs.declared.SizeNumbers.the-variants.{Broken, Sized}
-use Rattle.spec.specs.declared.Next.{Next}
-use Rattle.spec.specs.declared.Next.the-variants as Next
+use Rattle.spec.specs.declared.FeedSize.{FeedSize}
 use Rattle.spec.specs.declared.Step.{Step}
-use Rattle.spec.specs.declared.Step.the-variants as Step
 use Rattle.spec.specs.Basics.{if, fuelled, part}
-use Rattle.spec.specs.Answers.{ok, badVarint, feedCut, answerAt, answer, checked}
-use Rattle.spec.specs.Sizes.{blocksIn, sameSize, sizeOf, fault}
+use Rattle.spec.specs.Answers.{ok, badSize, badVarint, feedCut, answerAt, answer, checked}
+use Rattle.spec.specs.Sizes.{allowed, blocks, sameSize, sizeOf, fault}
 use Rattle.spec.specs.Maps.{recordOf}
-use Rattle.spec.specs.Boards.{Board, Left, left, recorded, exact, read, inTurn}
+use Rattle.spec.specs.Boards.{Board, Left, left, exact, read, inTurn}
 
 -- a number is not "above 16,777,215"
 abbrev pub maxNumber : ℕ
@@ -41,14 +38,35 @@ groups (suc more) scale sum s at =
 unfoldable pub varintAt : List ℕ → ℕ → Varint
 varintAt s at = groups 4 1 0 s at
 
--- A length number read at `at`: 12 or 13 there, 13 at "the chunk's first byte" where the feed ends inside it, or a chunk
-abbrev pub chunkAt : List ℕ → ℕ → Varint → Next
-chunkAt s at (Bad e) = Next.End (answer e at)
-chunkAt s at (Value n p) = if (ltb (length s) (p + n)) (Next.End (answer feedCut p)) (Next.Chunk p (p + n))
+-- "a definition sets out this paper's number and values for each of its cases" of an answer that is an enum: 12 or 13; or 0, the value, and the
+-- place after the number
+abbrev pub varintSays : Varint → List ℕ
+varintSays (Bad e) = e ∷ []
+varintSays (Value v after) = ok ∷ v ∷ after ∷ []
 
--- "then for each chunk its length and the chunk": what stands at a place, 0 at the feed's end
+-- How the chunks end: all bytes are used, at this place; or with this number, 12 or 13, at this place
+pub data Ending : Type 0 where
+  whole : ℕ → Ending
+  cut : ℕ → ℕ → Ending
+
+-- as the walk's own answer for n blocks: with 0 it has their number, with 12 and 13 block 0
+abbrev pub ended : ℕ → Ending → Answer
+ended n (whole at) = answerAt ok at n
+ended n (cut e at) = answer e at
+
+-- What stands at a place: a chunk, by the places of its first byte and after its last; or the end
+pub data Next : Type 0 where
+  chunk : ℕ → ℕ → Next
+  end : Ending → Next
+
+-- a length number read at `at`: 12 or 13 there, 13 at "the chunk's first byte" where the feed ends inside it, or a chunk
+abbrev pub chunkAt : List ℕ → ℕ → Varint → Next
+chunkAt s at (Bad e) = end (cut e at)
+chunkAt s at (Value n p) = if (ltb (length s) (p + n)) (end (cut feedCut p)) (chunk p (p + n))
+
+-- "then for each chunk its length and the chunk". A place past the end is the end
 unfoldable pub nextAt : List ℕ → ℕ → Next
-nextAt s at = if (ltb at (length s)) (chunkAt s at (varintAt s at)) (Next.End (answer ok at))
+nextAt s at = if (ltb at (length s)) (chunkAt s at (varintAt s at)) (end (whole (length s)))
 
 -- the bytes from a place up to another
 abbrev pub between : List ℕ → ℕ → ℕ → List ℕ
@@ -64,37 +82,53 @@ pub record Placed : Type 0 where
 abbrev pub placed : List ℕ → ℕ → ℕ → ℕ → Placed
 placed s at first past = record { numberAt = at; first = first; past = past; bytes = between s first past }
 
--- The chunks from a place on, and the walk's own answer at their end, which does not know the blocks yet
+-- The chunks from a place on, and how they end
 pub record Chunks : Type 0 where
   pub list : List Placed
-  pub ending : Answer
+  pub ending : Ending
 
-abbrev pub noMore : Answer → Chunks
-noMore a = record { list = []; ending = a }
+abbrev pub noMore : Ending → Chunks
+noMore e = record { list = []; ending = e }
 
 -- what stands at `at`, and the chunks after it
 abbrev pub andOnward : (ℕ → Chunks) → List ℕ → ℕ → Next → Chunks
-andOnward onward s at (Next.End a) = noMore a
-andOnward onward s at (Next.Chunk first past) =
+andOnward onward s at (end e) = noMore e
+andOnward onward s at (chunk first past) =
     let rest = onward past in
     record { list = placed s at first past ∷ rest .list; ending = rest .ending }
 
 -- each chunk takes a byte, so the feed's length is fuel enough
 unfoldable pub chunksFrom : ℕ → List ℕ → ℕ → Chunks
 chunksFrom fuel s at =
-    fuelled (λ at. ltb at (length s)) (λ onward at. andOnward onward s at (nextAt s at)) (λ at. noMore (answer ok at)) fuel at
+    fuelled (λ at. ltb at (length s)) (λ onward at. andOnward onward s at (nextAt s at)) (λ at. noMore (whole (length s))) fuel at
 
--- "A feed is width/4, height/4, then": a size number that fails, with its own place, or the size
+-- "A feed is width/4, height/4, then": a size number that fails, with its own place; or the size that both make, and the place after them
+pub data SizeNumbers : Type 0 where
+  failing : Answer → SizeNumbers
+  both : Size → ℕ → SizeNumbers
+
 abbrev pub withLines : ℕ → ℕ → Varint → SizeNumbers
-withLines c at (Bad e) = Broken (answer e at)
-withLines c at (Value r p) = Sized (sizeOf c r) p
+withLines c at (Bad e) = failing (answer e at)
+withLines c at (Value r p) = both (sizeOf c r) p
 
 abbrev pub withColumns : List ℕ → Varint → SizeNumbers
-withColumns s (Bad e) = Broken (answer e 0)
+withColumns s (Bad e) = failing (answer e 0)
 withColumns s (Value c p) = withLines c p (varintAt s p)
 
 unfoldable pub sizeNumbers : List ℕ → SizeNumbers
 sizeNumbers s = withColumns s (varintAt s 0)
+
+-- what a feed says of its size: 12 or 13, then 1, with no size; or the size, and the place of the first chunk's length number. It is no walk, so
+-- "0 from an operation added later" has place 0
+abbrev pub noSize : Answer → FeedSize
+noSize a = record { answer = a; size = sizeOf 0 0; first = 0 }
+
+abbrev pub feedSizeBy : SizeNumbers → FeedSize
+feedSizeBy (failing a) = noSize a
+feedSizeBy (both z first) = if (allowed z) (record { answer = answer ok 0; size = z; first = first }) (noSize (answer badSize 0))
+
+unfoldable pub feedSize : List ℕ → FeedSize
+feedSize s = feedSizeBy (sizeNumbers s)
 
 -- A feed taken apart: size numbers that fail, or the size and the chunks
 pub data Feed : Type 0 where
@@ -102,8 +136,8 @@ pub data Feed : Type 0 where
   sized : Size → Chunks → Feed
 
 abbrev pub withChunks : List ℕ → SizeNumbers → Feed
-withChunks s (Broken a) = broken a
-withChunks s (Sized z p) = sized z (chunksFrom (length s) s p)
+withChunks s (failing a) = broken a
+withChunks s (both z p) = sized z (chunksFrom (length s) s p)
 
 unfoldable pub feedOf : List ℕ → Feed
 feedOf s = withChunks s (sizeNumbers s)
@@ -122,16 +156,12 @@ pub record Reply : Type 0 where
 abbrev pub reply : List Answer → Answer → Reply
 reply inside a = record { inside = inside; accepted = numberAccepted inside; answer = a }
 
--- the walk's own answer at a size: with 0 it has the number of blocks, with 12 and 13 block 0
-abbrev pub ended : Size → Answer → Answer
-ended z a = answerAt (a .number) (a .place) (if (eqb (a .number) ok) (blocksIn z) 0)
-
 -- "The walk reads each chunk in turn over what the one before it left, just as that chunk is read by itself. A refused chunk doesn't end
 -- the walk; 1, 12 and 13 do". One that ends in 12 or 13 "leaves what the chunks accepted before it made"
 abbrev pub readAll : Size → Chunks → Board → Left Reply
 readAll z cs b =
     let ran = inTurn (read z) (map (λ c. c .bytes) (cs .list)) b in
-    left (reply (ran .said) (ended z (cs .ending))) (ran .board)
+    left (reply (ran .said) (ended (blocks z) (cs .ending))) (ran .board)
 
 -- behind 1 and 2: "Size is checked after both numbers are read, then the lent buffers (2, which also ends the walk)"
 abbrev pub walkBehind : ℕ → Size → Chunks → Board → Left Reply
@@ -159,13 +189,21 @@ walkRun z s b = walkChunks z (chunksOf s) b
 abbrev pub tally : Size → Left Reply → Tally
 tally z l = record { answer = l .said .answer; accepted = l .said .accepted; kept = recordOf z (l .board .kept) }
 
--- One step of it, from a place on: the chunk that stands there is read, with the record as it is then and the place after it; or nothing is
--- left to read
-abbrev pub stepBy : Size → List ℕ → Next → Board → Left Step
-stepBy z s (Next.End a) b = left (Step.End (ended z a)) b
-stepBy z s (Next.Chunk first past) b =
-    let l = read z (between s first past) b in
-    left (Step.Chunk (recorded z l) past) (l .board)
+-- One step of it, from a place on. Where no chunk is read, the answer is the walk's own, and record and place are as they were lent
+abbrev pub noChunk : Record → ℕ → Answer → Step
+noChunk r at a = record { answer = a; kept = r; chunk = false; next = at }
 
+-- a chunk's answer, the record as it is then, and the place after the chunk
+abbrev pub oneChunk : Size → ℕ → Left Answer → Step
+oneChunk z past l = record { answer = l .said; kept = recordOf z (l .board .kept); chunk = true; next = past }
+
+-- what stands there is read, "just as that chunk is read by itself"; or nothing is left to read
+abbrev pub stepBy : Size → List ℕ → ℕ → Next → Board → Left Step
+stepBy z s at (end e) b = left (noChunk (recordOf z (b .kept)) at (ended (blocks z) e)) b
+stepBy z s at (chunk first past) b =
+    let l = read z (between s first past) b in
+    left (oneChunk z past l) (l .board)
+
+-- after 1 and 2, by the lent record and lengths: a step reads no size numbers
 unfoldable pub walkStep : Size → List ℕ → ℕ → Board → Left Step
-walkStep z s at b = stepBy z s (nextAt s at) b
+walkStep z s at b = checked (fault z (exact z b)) (λ a. left (noChunk (recordOf z (b .kept)) at a) b) (stepBy z s at (nextAt s at) b)

@@ -7,18 +7,16 @@ use lib.Dec.{ltb, eqb}
 use lib.ListN.{length, replicate}
 use Rattle.spec.specs.declared.Answer.{Answer}
 use Rattle.spec.specs.declared.Size.{Size}
-use Rattle.spec.specs.declared.SizeNumbers.{SizeNumbers}
-use Rattle.spec.specs.declared.SizeNumbers.the-variants.{Broken, Sized}
+use Rattle.spec.specs.declared.FeedSize.{FeedSize}
 use Rattle.spec.specs.declared.Step.{Step}
-use Rattle.spec.specs.declared.Step.the-variants as Step
 use Rattle.spec.specs.declared.Decision.{Decision}
 use Rattle.spec.specs.declared.Decision.the-variants as Decision
 use Rattle.spec.specs.Basics.{if, from}
-use Rattle.spec.specs.Answers.{badSize, answer}
-use Rattle.spec.specs.Sizes.{allowed, pixels, blocks}
+use Rattle.spec.specs.Answers.{ok}
+use Rattle.spec.specs.Sizes.{pixels, blocks}
 use Rattle.spec.specs.Maps.{fresh, unsettled}
 use Rattle.spec.specs.Boards.{Board, board, read}
-use Rattle.spec.specs.Feeds.{Placed, chunksFrom, sizeNumbers}
+use Rattle.spec.specs.Feeds.{Placed, ended, chunksFrom, feedSize}
 
 -- "It takes feeds up to 32,768 bytes and 16,000 pixels"
 abbrev pub maxFeed : ℕ
@@ -28,14 +26,20 @@ abbrev pub maxShownPixels : ℕ
 maxShownPixels = 16000
 
 -- "a size that gets 1 is not measured against the 16,000. Where a size number fails, or gets 1, only the end line is printed (place 0 for 1)"
-abbrev pub decideBy : SizeNumbers → Decision
-decideBy (Broken a) = Decision.EndLine a
-decideBy (Sized z first) =
-    if (allowed z) (if (ltb maxShownPixels (pixels z)) Decision.TooLarge (Decision.Board z first)) (Decision.EndLine (answer badSize 0))
+abbrev pub decideBy : FeedSize → Decision
+decideBy f =
+    let board = Decision.Board (f .size) (f .first) in
+    if (eqb (f .answer .number) ok) (if (ltb maxShownPixels (pixels (f .size))) Decision.TooLarge board) (Decision.EndLine (f .answer))
 
 -- "the feed's length is looked at before anything else"
 unfoldable pub decide : List ℕ → Decision
-decide s = if (ltb maxFeed (length s)) Decision.TooLarge (decideBy (sizeNumbers s))
+decide s = if (ltb maxFeed (length s)) Decision.TooLarge (decideBy (feedSize s))
+
+-- 01's number and values for each case: "too large" has no number; the answer of the end line; or 0, the size, and the place of the first chunk
+abbrev pub decisionSays : Decision → List ℕ
+decisionSays Decision.TooLarge = []
+decisionSays (Decision.EndLine a) = a .number ∷ a .place ∷ a .block ∷ []
+decisionSays (Decision.Board z first) = ok ∷ z .width ∷ z .height ∷ first ∷ []
 
 -- Text is ASCII
 abbrev pub ascii : String → List ℕ
@@ -81,7 +85,7 @@ chunkLines z i (c ∷ cs) b =
 
 -- those from a place on, and the end line
 abbrev pub linesFrom : Size → List ℕ → ℕ → ℕ → Board → List ℕ
-linesFrom z s i at b = let cs = chunksFrom (length s) s at in chunkLines z i (cs .list) b ++ endLine (cs .ending)
+linesFrom z s i at b = let cs = chunksFrom (length s) s at in chunkLines z i (cs .list) b ++ endLine (ended (blocks z) (cs .ending))
 
 -- "from an all-zero picture and a fresh map", with its record
 abbrev pub startingBoard : Size → Board
@@ -98,5 +102,4 @@ listing s = listingBy s (decide s)
 -- The line of one step of the walk: of the chunk that it has read, with the record's count, or the end line. Where the record is true to its map
 -- these are the lines of the listing, one by one (`lines-step` of proofs/Listing)
 unfoldable pub stepLine : ℕ → Step → List ℕ
-stepLine i (Step.End a) = endLine a
-stepLine i (Step.Chunk r past) = chunkLine i (r .answer) (r .kept .unsettled)
+stepLine i st = if (st .chunk) (chunkLine i (st .answer) (st .kept .unsettled)) (endLine (st .answer))

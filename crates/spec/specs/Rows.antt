@@ -1,8 +1,8 @@
 -- One row of the table of examples, and one test that says whether it holds. Assumes nothing.
-use Prim.Native.Nat.{ℕ, _+_, _-_}
+use Prim.Native.Nat.{ℕ, zero, suc, _+_, _-_}
 use Prim.Native.String.{String}
 use mathlib.Core.List.{List, [], _∷_, _++_}
-use mathlib.Core.Bool.{Bool, true, false, _&&_}
+use mathlib.Core.Bool.{Bool, true, false, _&&_, Bool·beq}
 use lib.Dec.{eqb}
 use lib.ListN.{length, getD, replicate}
 use Rattle.spec.specs.declared.Answer.{Answer}
@@ -11,19 +11,19 @@ use Rattle.spec.specs.declared.Varint.{Varint}
 use Rattle.spec.specs.declared.Varint.the-variants.{Bad, Value}
 use Rattle.spec.specs.Basics.{if, fuelled, sameBy, same}
 use Rattle.spec.specs.Answers.{answerAt, answer, checked}
-use Rattle.spec.specs.Sizes.{blocks, sameSize}
+use Rattle.spec.specs.Sizes.{blocks, maxBlocks, sameSize}
 use Rattle.spec.specs.Sizes as Sizes
 use Rattle.spec.specs.Pictures.{Origin, given, held}
 use Rattle.spec.specs.Pictures as Pictures
 use Rattle.spec.specs.Maps.{fresh, unsettled, remap, recount, miscounts, freshMap, countMap}
 use Rattle.spec.specs.Flags.{upper24, lower24}
 use Rattle.spec.specs.Flags as Flags
-use Rattle.spec.specs.Chunks.{Outcome, refused, accepted, decode}
+use Rattle.spec.specs.Chunks.{Table, emptied, Outcome, refused, accepted, decode}
 use Rattle.spec.specs.Chunks as Chunks
 use Rattle.spec.specs.Boards.{Left, board, read, inTurn}
-use Rattle.spec.specs.Writing.{Wrote, opcodes, chunkFor, write}
+use Rattle.spec.specs.Writing.{Wrote, opcodes, maxLength, chunkFor, write}
 use Rattle.spec.specs.Writing as Writing
-use Rattle.spec.specs.Feeds.{varintAt, Placed, chunksFrom, Reply, walkRun}
+use Rattle.spec.specs.Feeds.{varintAt, Placed, chunksFrom, feedSize, Reply, walkRun, walkStep}
 use Rattle.spec.specs.Feeds as Feeds
 use Rattle.spec.specs.Calls.{Call, call, run}
 use Rattle.spec.specs.Listing.{ascii, listing}
@@ -39,6 +39,8 @@ pub data Row : Type 0 where
   lent : ℕ → ℕ → List ℕ → List ℕ → ℕ → List Call → List Reply → List ℕ → List ℕ → ℕ → Row
   -- blocks, a chunk that is accepted: the pixels that it gives the last of them
   lastGiven : ℕ → List ℕ → List ℕ → Row
+  -- entries of so many colours, so many of them stored in an emptied table: how many are filled then, and which is next
+  fills : ℕ → ℕ → ℕ → ℕ → Row
   -- size, the lengths of the lent picture and map: what reading an empty chunk answers
   readLengths : ℕ → ℕ → ℕ → ℕ → ℕ → Row
   -- the same of a run of one empty chunk
@@ -51,11 +53,17 @@ pub data Row : Type 0 where
   writes : ℕ → ℕ → List ℕ → List ℕ → List ℕ → Row
   -- origins: the opcodes of the writer's chunk
   encodes : List Origin → List ℕ → Row
+  -- the most blocks of a picture, and the most bytes of the writer's chunk for so many
+  atMost : ℕ → ℕ → Row
   -- bytes that start with a number: its value and the place after it; or 12 or 13
   varint : List ℕ → ℕ → ℕ → Row
   noVarint : List ℕ → ℕ → Row
   -- a feed and the place of its first chunk's number: the places of each chunk's number and first byte, and the place after it
   places : List ℕ → ℕ → List ℕ → Row
+  -- a feed: what it says of its size: the answer, width and height, and the place of the first chunk's number
+  sized : List ℕ → Answer → ℕ → ℕ → ℕ → Row
+  -- size, a picture with a fresh map and its record, a feed and a place: the answer of a step, whether a chunk stood there, and the next place
+  steps : ℕ → ℕ → List ℕ → List ℕ → ℕ → Answer → Bool → ℕ → Row
   -- a feed: what the board program prints
   prints : List ℕ → String → Row
 
@@ -83,6 +91,11 @@ abbrev pub lastIs : Outcome → ℕ → List ℕ → Bool
 lastIs (refused a) n px = false
 lastIs (accepted os) n px = eqb (length os) n && isGiven (getD os (n - 1) (held 0)) px
 
+-- these colours stored so many times
+abbrev pub putTimes : ℕ → List ℕ → Table → Table
+putTimes zero cs t = t
+putTimes (suc n) cs t = putTimes n cs (Chunks.put t cs)
+
 abbrev pub isWrote : Wrote → Answer → List ℕ → Bool
 isWrote w a out = sameAnswer (w .answer) a && same (w .output) out
 
@@ -99,12 +112,12 @@ placesOf [] = []
 placesOf (c ∷ cs) = c .numberAt ∷ c .first ∷ c .past ∷ placesOf cs
 
 unfoldable pub holds : Row → Bool
-unfolding if fuelled checked Sizes.side Sizes.blocksIn Sizes.fault Pictures.place Pictures.blockOf Pictures.pixelOf Pictures.shown Pictures.paint
+unfolding if fuelled checked Sizes.side Sizes.fault Pictures.place Pictures.blockOf Pictures.pixelOf Pictures.shown Pictures.paint
     remap recount miscounts freshMap countMap Flags.digits Flags.upper24 Flags.lower24 Flags.flags Flags.octetBytes Flags.flagBytes
     Chunks.put Chunks.missing Chunks.body Chunks.countAt Chunks.bodyAt Chunks.opcode Chunks.blocksBy Chunks.extend Chunks.stored Chunks.step Chunks.padding Chunks.finish Chunks.loop Chunks.decode
     read inTurn Writing.insert Writing.colours Writing.entries Writing.entryOf Writing.tabled Writing.single Writing.counting Writing.plain
     Writing.opcodeFor Writing.alike Writing.opcodes Writing.encode Writing.difference Writing.differences Writing.emit Writing.write
-    Feeds.groups Feeds.varintAt Feeds.nextAt Feeds.chunksFrom Feeds.sizeNumbers Feeds.feedOf Feeds.walk Feeds.walkRun call
+    Feeds.groups Feeds.varintAt Feeds.nextAt Feeds.chunksFrom Feeds.sizeNumbers Feeds.feedSize Feeds.feedOf Feeds.walk Feeds.walkRun Feeds.walkStep call
     Listing.decide Listing.higherDigits Listing.decimal Listing.chunkLines Listing.listing
 holds (octet bs x y) = eqb (upper24 bs) x && eqb (lower24 bs) y
 holds (sequence w h start calls replies pic m n) =
@@ -112,6 +125,7 @@ holds (sequence w h start calls replies pic m n) =
     isLeft (run (size w h) calls (board start (fresh n₀) n₀)) replies pic m n && eqb (unsettled m) n
 holds (lent w h start m₀ n₀ calls replies pic m n) = isLeft (run (size w h) calls (board start m₀ n₀)) replies pic m n
 holds (lastGiven n s px) = lastIs (decode n s) n px
+holds (fills colours n filled next) = let t = putTimes n (of colours 0) emptied in eqb (length (t .cells)) filled && eqb (t .next) next
 holds (readLengths w h pixels entries e) = sameAnswer (read (size w h) [] (board (of pixels 0) (of entries 0) entries) .said) (answer e 0)
 holds (runLengths w h pixels entries r) = sameReply (walkRun (size w h) (0 ∷ []) (board (of pixels 0) (of entries 0) entries) .said) r
 holds (writeLengths w h old new e) = isWrote (write (size w h) (of old 0) (of new 0) []) (answer e 0) []
@@ -129,9 +143,17 @@ holds (writes w h old new s) =
     && isWrote (write z old new (of (n + 1) 9)) (answerAt 0 n (blocks z)) (s ++ 9 ∷ [])
     && isWrote (write z old new (of (n - 1) 9)) (answer 14 0) (of (n - 1) 9)
 holds (encodes os s) = same (opcodes 0 os) s
+holds (atMost n most) = eqb maxBlocks n && eqb (maxLength n) most
 holds (varint s v p) = isVarint (varintAt s 0) v p
 holds (noVarint s e) = isBad (varintAt s 0) e
 holds (places s at ps) = same (placesOf (chunksFrom (length s) s at .list)) ps
+holds (sized s a w h first) =
+    let f = feedSize s in
+    sameAnswer (f .answer) a && sameSize (f .size) (size w h) && eqb (f .first) first
+holds (steps w h pic s at a stood next) =
+    let n = blocks (size w h) in
+    let st = walkStep (size w h) s at (board pic (fresh n) n) .said in
+    sameAnswer (st .answer) a && Bool·beq (st .chunk) stood && eqb (st .next) next
 holds (prints s text) = same (listing s) (ascii text)
 
 abbrev pub hold : List Row → Bool

@@ -34,10 +34,6 @@ lines z = z .height / 4
 abbrev pub blocks : Size → ℕ
 blocks z = columns z * lines z
 
--- those of an allowed size. Another has none
-unfoldable pub blocksIn : Size → ℕ
-blocksIn z = if (allowed z) (blocks z) 0
-
 -- what follows from the limits: 80 and 50 blocks a side, "At most 4,000 blocks", 64,000 pixels
 abbrev pub maxColumns : ℕ
 maxColumns = maxWidth / 4

@@ -127,28 +127,22 @@ impl Varint {
     pub const MAX: usize = 16777215;
 }
 
-// The two size numbers that a feed starts with.
-pub enum SizeNumbers {
-    // 12 or 13, at the number that fails
-    Broken(Answer),
-    // the size, and the place after both
-    Sized(Size, usize),
+// What a feed says of its size, so that a board can be made for it: the answer, the size, and the place of the first chunk's length number.
+#[repr(C)]
+pub struct FeedSize {
+    pub answer: Answer,
+    pub size: Size,
+    pub first: usize,
 }
 
-// What stands at a place behind the size numbers.
-pub enum Next {
-    // a chunk: the places of its first byte and after its last
-    Chunk(usize, usize),
-    // nothing more: the walk's own answer
-    End(Answer),
-}
-
-// One step of a walk.
-pub enum Step {
-    // the chunk's answer with the record as it is then, and the place to go on from
-    Chunk(Recorded, usize),
-    // the walk's own answer; the record is as it was lent
-    End(Answer),
+// One step of a walk. Where a chunk stood at the place, the answer is the chunk's, and `next` the place to go on from; else it is the walk's own,
+// and record and place are as they were lent.
+#[repr(C)]
+pub struct Step {
+    pub answer: Answer,
+    pub kept: Record,
+    pub chunk: bool,
+    pub next: usize,
 }
 
 // What a program that shows a board does with a feed.

@@ -12,3 +12,4 @@ pub mod Segmentwise
 pub mod Rowwise
 pub mod Positions
 pub mod Answering
+pub mod Numbers

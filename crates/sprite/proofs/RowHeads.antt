@@ -1,19 +1,36 @@
 -- What holds of a row's head, and the equations of a frame's rows. Assumes nothing. Here s are the file's bytes.
 use Prim.Native.Nat.{ℕ, _+_, _-_, _<_, _≤_}
-use mathlib.Core.Path.{_≡_, sym, _∙_, subst}
+use mathlib.Core.Path.{_≡_, refl, sym, ap, _∙_, subst}
 use mathlib.Core.Logic.{_≢_}
 use mathlib.Core.List.{List, [], _∷_, _++_}
 use native.Mathlib.Omega.{arith}
 use lib.Dec.{ltb, eqb}
-use lib.ListN.{length, replicate}
+use lib.ListN.{length, getD, replicate}
 use borrow.Author.Tests.{lt-ltb, le-ltb, ltb-false, ne-eqb}
 use Rattle.spec.specs.Basics.{if}
 use Rattle.spec.specs.Answers.{ok, badRow}
 use Rattle.spec.proofs.Lists.{by-test}
 use Rattle.sprite.specs.declared.heads.RowHead.{RowHead}
 use Rattle.sprite.specs.declared.heads.RowHead.the-variants as RowHead
-use Rattle.sprite.specs.Frames.{Shade, Reading, reading, Ended, ended, follow, codeAt, countAt, blankCode, dataCode, rowAt, row, dataTurn, rowTurn, marker, rowsFrom}
+use Rattle.sprite.specs.Frames.{Shade, Reading, reading, Ended, ended, follow, codeAt, countAt, blankCode, dataCode}
+use Rattle.sprite.specs.Frames.{rowAt, rowHeadSays, row, dataTurn, rowTurn, marker, rowsFrom}
 use Rattle.sprite.proofs.Gathering.{Onward, stops, goes, gather-end, gather-turn}
+
+-- heads that say the same are the same
+pub row-head-same : (x y : RowHead) → rowHeadSays x ≡ rowHeadSays y → x ≡ y
+row-head-same RowHead.Bad RowHead.Bad h = refl
+row-head-same RowHead.Bad (RowHead.Blank n) h = absurd (omega (arith, ap length h))
+row-head-same RowHead.Bad (RowHead.Data end) h = absurd (omega (arith, ap length h))
+row-head-same (RowHead.Blank n) RowHead.Bad h = absurd (omega (arith, ap length h))
+row-head-same (RowHead.Blank n) (RowHead.Blank m) h = ap (λ (l : List ℕ). RowHead.Blank (getD l 2 0)) h
+row-head-same (RowHead.Blank n) (RowHead.Data end) h = absurd (omega (arith, ap (λ (l : List ℕ). getD l 1 0) h))
+row-head-same (RowHead.Data end) RowHead.Bad h = absurd (omega (arith, ap length h))
+row-head-same (RowHead.Data end) (RowHead.Blank n) h = absurd (omega (arith, ap (λ (l : List ℕ). getD l 1 0) h))
+row-head-same (RowHead.Data end) (RowHead.Data last) h = ap (λ (l : List ℕ). RowHead.Data (getD l 2 0)) h
+
+-- of a head that code was given, and has looked at
+pub row-head-told : {r x y : RowHead} → r ≡ x → rowHeadSays r ≡ rowHeadSays y → x ≡ y
+row-head-told {r} {x} {y} g e = sym g ∙ row-head-same r y e
 
 module _ (s : List ℕ) where
   -- rows of background, and a row with data, whose heads are whole

@@ -1,10 +1,10 @@
 -- What holds of a segment, and the equations of a row. Assumes nothing. Here s are the file's bytes.
 use Prim.Native.Nat.{ℕ, _+_, _-_, _<_, _≤_}
-use mathlib.Core.Path.{_≡_, refl, sym, _∙_, subst}
+use mathlib.Core.Path.{_≡_, refl, sym, ap, _∙_, subst}
 use mathlib.Core.List.{List, _++_}
 use native.Mathlib.Omega.{arith}
 use lib.Dec.{ltb, eqb}
-use lib.ListN.{length, length-map, length-replicate}
+use lib.ListN.{length, getD, length-map, length-replicate}
 use borrow.Author.Tests.{lt-ltb, le-ltb, ltb-false, eqb-true, eqb-false}
 use Rattle.spec.specs.Basics.{if, part}
 use Rattle.spec.specs.Answers.{ok, badSegment}
@@ -12,8 +12,20 @@ use Rattle.spec.proofs.Lists.{by-test}
 use Rattle.spec.proofs.Parts.{length-part}
 use Rattle.sprite.specs.declared.heads.Segment.{Segment}
 use Rattle.sprite.specs.declared.heads.Segment.the-variants as Segment
-use Rattle.sprite.specs.Frames.{Shade, colour, Reading, reading, ended, follow, codeAt, countAt, runCode, copyCode, segmentBytes, segmentAt, shades, segmentTurn, rowFrom}
+use Rattle.sprite.specs.Frames.{Shade, colour, Reading, reading, ended, follow, codeAt, countAt, runCode, copyCode}
+use Rattle.sprite.specs.Frames.{segmentBytes, segmentAt, segmentSays, shades, segmentTurn, rowFrom}
 use Rattle.sprite.proofs.Gathering.{Onward, stops, goes, gather-end, gather-turn}
+
+-- segments that say the same are the same
+pub segment-same : (x y : Segment) → segmentSays x ≡ segmentSays y → x ≡ y
+segment-same Segment.Bad Segment.Bad h = refl
+segment-same Segment.Bad (Segment.Pixels n p) h = absurd (omega (arith, ap length h))
+segment-same (Segment.Pixels n p) Segment.Bad h = absurd (omega (arith, ap length h))
+segment-same (Segment.Pixels n p) (Segment.Pixels m q) h = ap (λ (l : List ℕ). Segment.Pixels (getD l 1 0) (getD l 2 0)) h
+
+-- of a segment that code was given, and has looked at
+pub segment-told : {r x y : Segment} → r ≡ x → segmentSays r ≡ segmentSays y → x ≡ y
+segment-told {r} {x} {y} g e = sym g ∙ segment-same r y e
 
 -- the bytes that a copy needs, and a run
 pub bytes-copy : (code n : ℕ) → code ≡ copyCode → 2 + n ≤ segmentBytes code n
@@ -62,7 +74,8 @@ module _ (s : List ℕ) where
       let P : List Shade → Type 0 = λ l. length l ≡ countAt s at in
       by-test P (eqb (codeAt s at) runCode) (λ t. length-replicate _ _) (λ a.
       by-test P (eqb (codeAt s at) copyCode)
-      (λ t. let b = bytes-copy (codeAt s at) (countAt s at) (eqb-true _ _ t) in length-map (part s (at + 2) (countAt s at)) colour ∙ length-part s (at + 2) (countAt s at) (omega arith))
+      (λ t. let b = bytes-copy (codeAt s at) (countAt s at) (eqb-true _ _ t) in
+      length-map (part s (at + 2) (countAt s at)) colour ∙ length-part s (at + 2) (countAt s at) (omega arith))
       (λ t. length-replicate _ _))
 
   module _ (width end : ℕ) (h : end ≤ length s) where

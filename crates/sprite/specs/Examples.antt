@@ -108,12 +108,14 @@ further =
     ∷ refuses (0xF6 ∷ 0x01 ∷ 0x00 ∷ 0x00 ∷ 0x01 ∷ of 10 0) 15
     ∷ paints 4 4 (of 16 9) (0xF6 ∷ 0x01 ∷ 0x00 ∷ 0x00 ∷ 0x01 ∷ of 10 0) 7 (pos 0) (pos 0) 15 (of 16 9)
     ∷ refuses (0xF6 ∷ 0x01 ∷ 0x00 ∷ 0x00 ∷ 0x00 ∷ 0x01 ∷ of 26 0) 15
+    ∷ refuses (0xF6 ∷ 0x01 ∷ 0x00 ∷ 0x00 ∷ 0x01 ∷ 0x00 ∷ 0x01 ∷ of 25 0) 15
     -- two frames: each at its own offset
     ∷ paints 4 4 (of 16 9) two 0 (pos 0) (pos 0) 0 (0x11 ∷ of 15 9)
     ∷ paints 4 4 (of 16 9) two 1 (pos 0) (pos 0) 0 (0x22 ∷ of 15 9)
     ∷ paints 4 4 (of 16 9) two 2 (pos 0) (pos 0) 16 (of 16 9)
-    -- an offset past the end, at the end; a first word that is not zero, and a second; a fifth may be anything
+    -- an offset past the end, also by its upper half alone, at the end; a first word that is not zero, and a second; a fifth may be anything
     ∷ refuses (0xF6 ∷ 0x01 ∷ 0x00 ∷ 0x00 ∷ 0x01 ∷ of 7 0 ++ 0x00 ∷ 0x01 ∷ 0x00 ∷ 0x00 ∷ frame 1 1 dot) 17
+    ∷ refuses (0xF6 ∷ 0x01 ∷ 0x00 ∷ 0x00 ∷ 0x01 ∷ of 7 0 ++ 0x10 ∷ 0x00 ∷ 0x01 ∷ 0x00 ∷ frame 1 1 dot) 17
     ∷ refuses (file []) 17
     ∷ refuses (file (0x01 ∷ 0x00 ∷ 0x00 ∷ 0x00 ∷ 0x01 ∷ 0x00 ∷ 0x01 ∷ 0x00 ∷ 0x00 ∷ 0x00 ∷ dot)) 17
     ∷ refuses (file (0x00 ∷ 0x01 ∷ 0x00 ∷ 0x00 ∷ 0x01 ∷ 0x00 ∷ 0x01 ∷ 0x00 ∷ 0x00 ∷ 0x00 ∷ dot)) 17
@@ -177,8 +179,9 @@ further =
     ∷ shows (file valid) (pos 32767) (pos 32767) (of 16 9)
     -- columns are not rows: 8x4
     ∷ paints 8 4 (of 32 9) (file valid) 0 (pos 5) (pos 1) 0 (of 21 9 ++ 0x11 ∷ 0x12 ∷ 0x13 ∷ of 6 9 ++ 0x15 ∷ 0x15 ∷ [])
-    -- 1 and 2 come first
+    -- 1 and 2 come first, 1 before 2
     ∷ paints 6 4 (of 24 9) [] 0 (pos 0) (pos 0) 1 (of 24 9)
+    ∷ paints 6 4 (of 23 9) [] 0 (pos 0) (pos 0) 1 (of 23 9)
     ∷ paints 4 4 (of 15 9) [] 0 (pos 0) (pos 0) 2 (of 15 9)
     ∷ paints 4 4 (of 17 9) (file valid) 0 (pos 0) (pos 0) 2 (of 17 9)
     ∷ []

@@ -90,6 +90,15 @@ segmentAt s end room at =
     (if (ltb end (at + size)) Segment.Bad
     (if (ltb room (countAt s at)) Segment.Bad (Segment.Pixels (countAt s at) (at + size)))))
 
+-- "a definition sets out this paper's number and values for each of its cases" of an answer that is an enum: 19; or 0 and the two values
+abbrev pub segmentSays : Segment → List ℕ
+segmentSays Segment.Bad = badSegment ∷ []
+segmentSays (Segment.Pixels n next) = ok ∷ n ∷ next ∷ []
+
+-- the number comes first in what is said
+abbrev pub numberSaid : List ℕ → ℕ
+numberSaid says = getD says 0 0
+
 -- what it shows
 unfoldable pub shades : List ℕ → ℕ → List Shade
 shades s at =
@@ -97,7 +106,7 @@ shades s at =
     (if (eqb (codeAt s at) copyCode) (map colour (part s (at + 2) (countAt s at))) (replicate (countAt s at) background))
 
 abbrev pub segmentTurn : List ℕ → ℕ → Segment → Turn Shade
-segmentTurn s at Segment.Bad = stop badSegment
+segmentTurn s at Segment.Bad = stop (numberSaid (segmentSays Segment.Bad))
 segmentTurn s at (Segment.Pixels n next) = more (shades s at) next
 
 -- A row with data in a frame of this width: its segments up to `end`, from a place on and after what has been read. What they leave of the
@@ -119,11 +128,17 @@ rowAt s room at =
     (if (eqb (codeAt s at) blankCode) (if (ltb room n) RowHead.Bad (RowHead.Blank n))
     (if (eqb (codeAt s at) dataCode) (if (ltb n 4) RowHead.Bad (if (ltb (length s) (at + n)) RowHead.Bad (RowHead.Data (at + n)))) RowHead.Bad))
 
+-- likewise: 18; or 0, the code of what it is, and the rows or the place
+abbrev pub rowHeadSays : RowHead → List ℕ
+rowHeadSays RowHead.Bad = badRow ∷ []
+rowHeadSays (RowHead.Blank n) = ok ∷ blankCode ∷ n ∷ []
+rowHeadSays (RowHead.Data end) = ok ∷ dataCode ∷ end ∷ []
+
 abbrev pub dataTurn : ℕ → Ended Shade → Turn (List Shade)
 dataTurn end r = if (eqb (r .number) ok) (more (r .made ∷ []) end) (stop (r .number))
 
 abbrev pub rowTurn : List ℕ → ℕ → ℕ → RowHead → Turn (List Shade)
-rowTurn s width at RowHead.Bad = stop badRow
+rowTurn s width at RowHead.Bad = stop (numberSaid (rowHeadSays RowHead.Bad))
 rowTurn s width at (RowHead.Blank n) = more (replicate n []) (at + 2)
 rowTurn s width at (RowHead.Data end) = dataTurn end (row s width (at + 2) end)
 

@@ -43,6 +43,15 @@ abbrev pub paintFrame : Size → ℤ → ℤ → Ended (List Shade) → List ℕ
 paintFrame z left top e pic =
     painted (answer (e .number) 0) (if (eqb (e .number) ok) (overlay z (placed left top (e .made)) pic) pic)
 
+-- what painting a symbol is lent
+pub record SymbolLent : Type 0 where
+  pub size : Size
+  pub picture : List ℕ
+  pub file : List ℕ
+  pub frame : ℕ
+  pub left : ℤ
+  pub top : ℤ
+
 unfoldable pub paintSymbol : Size → List ℕ → List ℕ → ℕ → ℤ → ℤ → Painted
 paintSymbol z pic s k left top =
     checked (fault z (eqb (length pic) (pixels z))) (λ a. painted a pic) (paintFrame z left top (frame s k) pic)

@@ -3,7 +3,7 @@ use crate::bytes;
 ghost use mathlib.Core.Path.{_≡_};
 ghost use Prim.Native.Nat.{_≤_};
 ghost use lib.ListN.{length};
-ghost use Rattle.sprite.specs.Frames.{segmentBytes, segmentAt, rowAt};
+ghost use Rattle.sprite.specs.Frames.{segmentBytes, segmentAt, segmentSays, rowAt, rowHeadSays};
 
 // A segment: refused; or how many pixels it has, and the place after it.
 pub enum Segment {
@@ -56,7 +56,7 @@ fn segment_bytes(code: u8, count: usize) -> usize
 pub fn segment_at(s: &[u8], end: usize, room: usize, at: usize) -> Segment
     requires { ⌜ at ≤ end ⌝ }
     requires { ⌜ end ≤ length (now s) ⌝ }
-    ensures { λ r. ⌜ r ≡ segmentAt (now (s .entry)) end room at ⌝ }
+    ensures { λ r. ⌜ segmentSays r ≡ segmentSays (segmentAt (now (s .entry)) end room at) ⌝ }
 {
     if end - at < 2 {
         return Segment::Bad;
@@ -78,7 +78,7 @@ pub fn segment_at(s: &[u8], end: usize, room: usize, at: usize) -> Segment
 // The head of a row at s[at], where so many rows remain.
 pub fn row_at(s: &[u8], room: usize, at: usize) -> RowHead
     requires { ⌜ at ≤ length (now s) ⌝ }
-    ensures { λ r. ⌜ r ≡ rowAt (now (s .entry)) room at ⌝ }
+    ensures { λ r. ⌜ rowHeadSays r ≡ rowHeadSays (rowAt (now (s .entry)) room at) ⌝ }
 {
     if s.len() - at < 2 {
         return RowHead::Bad;

@@ -4,7 +4,6 @@ use mathlib.Core.Path.{_≡_, refl, ap, _∙_}
 use mathlib.Core.Logic.{_≢_}
 use mathlib.Core.List.{List, [], _∷_, map}
 use mathlib.Core.Bool.{Bool, true, false, _&&_}
-use native.Mathlib.Omega.{arith}
 use Rattle.spec.specs.declared.Answer.{Answer}
 use Rattle.spec.specs.declared.Size.{Size}
 use Rattle.spec.specs.Basics.{Every, none, also}
@@ -15,12 +14,12 @@ use Rattle.spec.specs.Feeds.{Feed, broken, sized, feedOf, Chunks, chunksOf, Rep
 use Rattle.spec.specs.Calls.{Call, reading, walking, walkingRun, call}
 use Rattle.spec.proofs.Lists.{by-checked, checked-refused}
 use Rattle.spec.proofs.Limits.{same-size, fault-somehow}
-use Rattle.spec.proofs.Refused.{decode-most}
+use Rattle.spec.proofs.Refused.{decode-number}
 use Rattle.spec.proofs.Boards.{faithful-paint, read-faithful, faithful-read}
 use Rattle.trust.specs.Kept.{readPlain, NoMiscount, TrueStays}
 use Rattle.trust.specs.Demand.{FeedFor, itsSize, noneRead, EveryFeed}
 use Rattle.trust.proofs.Meanings.{call-means}
-use Rattle.trust.proofs.Stops.{never-own}
+use Rattle.trust.proofs.Numbers.{another, run-number, walk-number}
 
 -- a feed has the board's size as its size numbers, or no chunk of it is read
 pub every-feed : EveryFeed
@@ -38,10 +37,7 @@ every-feed z s = by (feedOf s) refl
 
 module _ (z : Size) (fine : allowed z ≡ true) where
   read-counts : (s : List ℕ) (b : Board) → Faithful z b → read z s b .said .number ≢ badCount
-  read-counts s b f e =
-      let most = decode-most (blocks z) s in
-      let is = ap (λ (l : Left Answer). l .said .number) (read-faithful z fine s b f) in
-      omega (arith, most, is, e)
+  read-counts s b f = rw (read-faithful z fine s b f) (another badCount (decode-number (blocks z) s) refl)
 
   -- one after the other
   reads-plain : (ss : List (List ℕ)) (b : Board) → Faithful z b → inTurn (read z) ss b ≡ inTurn (readPlain z) ss b
@@ -74,8 +70,8 @@ module _ (z : Size) (fine : allowed z ≡ true) where
   call-counts : (a : Call) (b : Board) → Faithful z b → NoMiscount (call z a b .said)
   unfolding call walkRun
   call-counts (reading s) b f = (read-counts s b f, none)
-  call-counts (walking s) b f = (never-own .walking z s b, walk-counts s b f)
-  call-counts (walkingRun s) b f = (never-own .running z s b, chunks-count (fault z (exact z b)) (chunksOf s) b f)
+  call-counts (walking s) b f = (another badCount (walk-number z s b .0) refl, walk-counts s b f)
+  call-counts (walkingRun s) b f = (another badCount (run-number z s b .0) refl, chunks-count (fault z (exact z b)) (chunksOf s) b f)
 
 pub true-stays : TrueStays
 true-stays z fine b f =

@@ -1,8 +1,12 @@
-pub mod Meanings
+pub mod Witnesses
+pub mod Numbers
 pub mod Refusals
+pub mod Stops
+pub mod Waiting
+pub mod Meanings
 pub mod Demand3
 pub mod Runs
-pub mod Stops
 pub mod Kept
 pub mod Turns
 pub mod RoundTrip
+pub mod Claims

@@ -97,10 +97,10 @@ module _ (z : Size) (fine : allowed z ≡ true) where
       let m = inTurn-means (read z) (every-all (map (λ c. c .bytes) (cs .list)) read-means) in
       let is : (b : Board) → Faithful z b → walkChunks z cs b ≡ readAll z cs b = λ b x. rw (no-fault z fine b (x .exact)) in
       record {
-        said = reply (m .said) (ended z (cs .ending));
+        said = reply (m .said) (ended (blocks z) (cs .ending));
         origins = m .origins;
         covers = m .covers;
-        says = λ b x. ap (λ l. l .said) (is b x) ∙ ap (λ a. reply a (ended z (cs .ending))) (m .says b x);
+        says = λ b x. ap (λ l. l .said) (is b x) ∙ ap (λ a. reply a (ended (blocks z) (cs .ending))) (m .says b x);
         leaves = λ b x. ap (λ l. l .board) (is b x) ∙ m .leaves b x;
       }
 

@@ -133,7 +133,7 @@ module _ (n : ℕ) (s pre post : List ℕ) (st : State) (here : length pre ≡ s
         (λ at g. ap (λ (l : List Origin). st .made ++ l)
         (one-block _ (2 * bits) s at fs g ∙ ap (λ (l : List ℕ). given l ∷ []) (pixels-back bits b es px les sixteen (has-entries bits px))))
 
-    whole-turn : Reads (given px ∷ []) (0xE0 ∷ px)
+    pub whole-turn : Reads (given px ∷ []) (0xE0 ∷ px)
     unfolding extend
     whole-turn =
         takes (0xE0 ∷ []) [] px (given px ∷ []) (refl, refl, refl) (alone 14 (omega arith) refl) room refl sixteen

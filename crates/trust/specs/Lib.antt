@@ -1,7 +1,10 @@
+pub mod Numbers
+pub mod Refusals
+pub mod Stops
+pub mod Waiting
 pub mod Means
 pub mod Demand
 pub mod Kept
 pub mod Runs
-pub mod Stops
-pub mod Refusals
 pub mod RoundTrip
+pub mod Claims

@@ -1,14 +1,13 @@
--- Every answer of what reads or writes chunks has the block that goes with its number, and 21 is never a walk's own. Assumes nothing.
+-- Every answer of what reads or writes chunks has the block that goes with its number. Assumes nothing.
 use Prim.Native.Nat.{ℕ}
-use mathlib.Core.Logic.{_≢_}
 use mathlib.Core.List.{List}
 use Rattle.spec.specs.declared.Size.{Size}
 use Rattle.spec.specs.Basics.{Every}
-use Rattle.spec.specs.Answers.{badCount, Stopped}
+use Rattle.spec.specs.Answers.{Stopped}
 use Rattle.spec.specs.Sizes.{blocks}
 use Rattle.spec.specs.Boards.{Board, read}
 use Rattle.spec.specs.Writing.{write}
-use Rattle.spec.specs.Feeds.{Reply, walk, walkRun}
+use Rattle.spec.specs.Feeds.{Reply, walk, walkRun, walkStep}
 
 -- a walk's own answer, and those of the chunks inside it
 abbrev pub AllStopped : ℕ → Reply → Type 0
@@ -20,8 +19,4 @@ pub record Stops : Type 0 where
   pub writing : (z : Size) (old new out : List ℕ) → Stopped (blocks z) (write z old new out .answer)
   pub running : (z : Size) (s : List ℕ) (b : Board) → AllStopped (blocks z) (walkRun z s b .said)
   pub walking : (z : Size) (s : List ℕ) (b : Board) → AllStopped (blocks z) (walk z s b .said)
-
--- 21 is a chunk's answer, by itself or inside a walk or run; these go on behind it, and never end with it
-pub record NeverOwn : Type 0 where
-  pub running : (z : Size) (s : List ℕ) (b : Board) → walkRun z s b .said .answer .number ≢ badCount
-  pub walking : (z : Size) (s : List ℕ) (b : Board) → walk z s b .said .answer .number ≢ badCount
+  pub stepping : (z : Size) (s : List ℕ) (at : ℕ) (b : Board) → Stopped (blocks z) (walkStep z s at b .said .answer)

@@ -4,7 +4,7 @@
 use std::fmt::{Debug, Display};
 use std::hint::black_box;
 
-use seatboard::exact::{self, Answer, Count, Recorded, Tally};
+use seatboard::exact::{self, Answer, Count, FeedSize, Recorded, Step, Tally};
 use seatboard::{Record, Size};
 use second::reader::{self, pixel_blocks, At, Reading, Refusal};
 use second::sprite::{self, Frame};
@@ -15,6 +15,7 @@ use crate::feeds::{self, FeedCase};
 use crate::generate::{unsettled, Board, Case, SETTLED};
 use crate::pictures::WriteCase;
 use crate::runs::RunCase;
+use crate::steps::StepCase;
 use crate::symbols::{Placed, SymbolCase};
 
 /// One of the two that are compared.
@@ -22,13 +23,17 @@ pub struct Codec {
     pub fresh_map: fn(Size, &mut [u16]) -> Recorded,
     pub count: fn(Size, &mut [u16]) -> Count,
     pub read_chunk: fn(Record, &[u8], &mut [u8], &mut [u16]) -> Recorded,
+    pub feed_size: fn(&[u8]) -> FeedSize,
     pub walk_feed: fn(Record, &[u8], &mut [u8], &mut [u16]) -> Recorded,
     pub walk_run: fn(Record, &[u8], &mut [u8], &mut [u16]) -> Tally,
+    pub walk_step: WalkStep,
     /// Old picture, new picture, output: the pictures too, so that a change of them is found.
     pub write_chunk: fn(Size, &mut [u8], &mut [u8], &mut [u8]) -> Answer,
     /// Picture, file: the file too, so that a change of it is found.
     pub paint_symbol: fn(Size, &mut [u8], &mut [u8], Placed) -> Answer,
 }
+
+type WalkStep = fn(Record, &[u8], usize, &mut [u8], &mut [u16]) -> Step;
 
 pub const LIBRARY: Codec = Codec {
     fresh_map: exact::fresh_map,
@@ -38,8 +43,10 @@ pub const LIBRARY: Codec = Codec {
         counted
     },
     read_chunk: exact::read_chunk,
+    feed_size: exact::feed_size,
     walk_feed: exact::walk_feed,
     walk_run: exact::walk_run,
+    walk_step: exact::walk_step,
     write_chunk: |size, old, new, output| {
         let answer = exact::write_chunk(size, old, new, output);
         perhaps_changed(old);
@@ -77,8 +84,10 @@ pub const SECOND: Codec = Codec {
         }
     },
     read_chunk: |record, chunk, picture, map| second_reading(record, chunk, picture, map).0,
+    feed_size: second_size,
     walk_feed: |record, feed, picture, map| second_walk(record, feed, picture, map).0,
     walk_run: |record, run, picture, map| second_run(record, run, picture, map).0,
+    walk_step: |record, feed, at, picture, map| second_step(record, feed, at, picture, map).0,
     write_chunk: |size, old, new, output| {
         let written = writer::write_chunk((size.width, size.height), old, new, output);
         write_answer(&written)
@@ -150,6 +159,47 @@ pub fn second_run(
     (tally, walk)
 }
 
+/// 01: 0 from an operation added later returns place 0.
+fn second_size(feed: &[u8]) -> FeedSize {
+    match walk::size(feed) {
+        Ok(((width, height), first)) => FeedSize {
+            answer: answered((0, At::NOWHERE)),
+            size: Size { width, height },
+            first,
+        },
+        Err(stop) => FeedSize {
+            answer: answered(stop.number_and_at()),
+            size: Size {
+                width: 0,
+                height: 0,
+            },
+            first: 0,
+        },
+    }
+}
+
+fn second_step(
+    record: Record,
+    bytes: &[u8],
+    at: usize,
+    picture: &mut [u8],
+    map: &mut [u16],
+) -> (Step, walk::Step) {
+    let mut kept = theirs(record);
+    let stepped = walk::step(&mut kept, bytes, at, picture, map);
+    let (chunk, next) = match stepped {
+        walk::Step::Chunk(_, after) => (true, after),
+        walk::Step::End(_) => (false, at),
+    };
+    let step = Step {
+        answer: answered(stepped.number_and_at()),
+        record: ours(kept),
+        chunk,
+        next,
+    };
+    (step, stepped)
+}
+
 fn answer<T>(reading: &Result<T, Refusal>, accepted: At) -> Answer {
     answered(reader::number_and_at(reading, accepted))
 }
@@ -213,6 +263,15 @@ impl<A: Debug + PartialEq> Outcome<A> {
             self.map.difference(&other.map, "map entry", names),
         ];
         differences([&self.answer, &other.answer], buffers, names)
+    }
+
+    /// The same buffers, left by another way to make the call.
+    fn answering<B>(self, answer: B) -> Outcome<B> {
+        Outcome {
+            answer,
+            picture: self.picture,
+            map: self.map,
+        }
     }
 }
 
@@ -354,9 +413,11 @@ pub fn read_chunk(Case { board, chunk }: &Case) -> Comparison {
     }
 }
 
-/// The differences between the two on one feed, with the second walk itself.
+/// The differences between the two on one feed and its size, and between the walk and its steps, with
+/// the second walk itself.
 pub struct FeedComparison {
     pub differences: Vec<String>,
+    pub size: FeedSize,
     pub walk: Walk,
     /// Whether the second walk left another picture or map than it was lent.
     pub changed: bool,
@@ -375,11 +436,61 @@ pub fn walk_feed(FeedCase { board, feed }: &FeedCase) -> FeedComparison {
         said
     });
     let (walk, changed) = walked.expect("the second walk was called");
+    let mut differences = ours.differences(&theirs, ["ours", "second walk's"]);
+    let [size, stated] = [LIBRARY, SECOND].map(|codec| (codec.feed_size)(feed));
+    if size != stated {
+        differences.push(format!("ours {size:?}, second {stated:?}"));
+    }
+    // Whoever steps over a feed looks at its size first, as the walk does.
+    if stated.answer.number == 0 && stated.size == record.size {
+        let steps = steps_of(record, stated.first, &walk);
+        let stepped = by_steps(board, feed, stated.first, steps.len());
+        differences.extend(stepped.differences(&theirs.answering(steps), STEP_NAMES));
+    }
     FeedComparison {
-        differences: ours.differences(&theirs, ["ours", "second walk's"]),
+        differences,
+        size: stated,
         walk,
         changed,
     }
+}
+
+const STEP_NAMES: [&str; 2] = ["ours by steps", "second walk's"];
+
+/// What the steps from a place on should say, by the second walk from there.
+fn steps_of(record: Record, first: usize, walk: &Walk) -> Vec<Step> {
+    let mut before = Step {
+        answer: walk_answer(walk),
+        record,
+        chunk: false,
+        next: first,
+    };
+    let mut steps = Vec::new();
+    for read in &walk.chunks {
+        before.record.unsettled = read.kept;
+        before.next = read.first + read.length;
+        steps.push(Step {
+            answer: answered((read.number, read.at)),
+            chunk: true,
+            ..before
+        });
+    }
+    steps.push(before);
+    steps
+}
+
+/// Ours, so many steps from a place on, each with the record and at the place that the one before it
+/// handed back.
+fn by_steps(board: &Board, bytes: &[u8], first: usize, steps: usize) -> Outcome<Vec<Step>> {
+    Outcome::of(board, |picture, map| {
+        let (mut record, mut at) = (board.record(), first);
+        let mut step = || {
+            let step = (LIBRARY.walk_step)(record, bytes, at, picture, map);
+            (record, at) = (step.record, step.next);
+            step
+        };
+        (0..steps).map(|_| step()).collect()
+    })
 }
 
 /// The differences between the two on one run, and between ours and other ways to hand over its
@@ -408,7 +519,33 @@ pub fn walk_run(case: &RunCase) -> RunComparison {
         let as_feed = behind(&numbers, case, ours.answer.accepted);
         differences.extend(ours.differences(&as_feed, ["ours", "as a feed"]));
     }
+    let steps = steps_of(record, 0, &walk);
+    let stepped = by_steps(board, run, 0, steps.len());
+    differences.extend(stepped.differences(&theirs.answering(steps), STEP_NAMES));
     RunComparison { differences, walk }
+}
+
+/// The differences between the two on one step, with the second walk's own.
+pub struct StepComparison {
+    pub differences: Vec<String>,
+    pub step: walk::Step,
+}
+
+pub fn walk_step(StepCase { board, bytes, at }: &StepCase) -> StepComparison {
+    let record = board.record();
+    let ours = Outcome::of(board, |picture, map| {
+        (LIBRARY.walk_step)(record, bytes, *at, picture, map)
+    });
+    let mut stepped = None;
+    let theirs = Outcome::of(board, |picture, map| {
+        let (said, step) = second_step(record, bytes, *at, picture, map);
+        stepped = Some(step);
+        said
+    });
+    StepComparison {
+        differences: ours.differences(&theirs, ["ours", "second walk's"]),
+        step: stepped.expect("the second walk was called"),
+    }
 }
 
 /// The same by single readings (02): all chunks before the end that the second walk found, each read

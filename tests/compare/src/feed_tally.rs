@@ -32,6 +32,7 @@ const GROUPS: [(usize, &str); 4] = [
 #[derive(Default)]
 pub struct FeedTally {
     ends: Numbers,
+    sizes: Numbers,
     /// 12, by the number and then by its fault.
     bad_numbers: [[usize; 3]; 3],
     /// 13, by the number.
@@ -51,6 +52,7 @@ impl FeedTally {
     pub fn add(&mut self, case: &FeedCase, compared: &FeedComparison) {
         let (number, _) = compared.walk.number_and_at();
         self.ends.add(number);
+        self.sizes.add(compared.size.answer.number);
         match compared.walk.end {
             Err(Stop::BadNumber(number, fault, _)) => {
                 self.bad_numbers[number as usize][fault as usize] += 1;
@@ -73,6 +75,10 @@ impl FeedTally {
 
     pub fn end_counts(&self) -> Counts {
         self.ends.counts("walks that got", [0, 1, 2, 12, 13])
+    }
+
+    pub fn size_counts(&self) -> Counts {
+        self.sizes.counts("feed sizes that got", [0, 1, 12, 13])
     }
 
     pub fn number_counts(&self) -> Counts {

@@ -1,6 +1,6 @@
 //! Sequences of calls in which the record goes from call to call, as 02 has it: by the library and by
 //! the second reader, from a fresh start and from a map and a count of any kind; and by a `Board`, which
-//! starts fresh and keeps its record to itself.
+//! starts fresh and keeps its record to itself, and walks feeds step by step too.
 
 use seatboard::exact::{Answer, Recorded};
 use seatboard::{Accepted, Record, Refused, Size};
@@ -143,7 +143,18 @@ fn board_differences(size: Size, calls: &[Call], ran: &Ran) -> Vec<String> {
     };
     let mut wrong = Vec::new();
     for (number, (call, said)) in calls.iter().zip(&ran.said).enumerate() {
+        let stepped = match call {
+            Call::Walk(feed) => Some(by_steps(board.clone(), feed)),
+            Call::Read(_) | Call::Run(_) => None,
+        };
         let of_board = call_board(&mut board, call);
+        if let Some((left, end)) = stepped {
+            if left != board || end != Some(of_board.answer) {
+                wrong.push(format!(
+                    "call {number}: a Board {of_board:?}, by steps {end:?}"
+                ));
+            }
+        }
         if of_board != *said {
             wrong.push(format!(
                 "call {number}: a Board {of_board:?}, slices {said:?}"
@@ -174,6 +185,19 @@ fn call_board(board: &mut seatboard::Board, call: &Call) -> Said {
         },
         counted: unsettled(board.map()),
     }
+}
+
+/// What a feed leaves and how it ends when it is gone through step by step.
+fn by_steps(mut board: seatboard::Board, feed: &[u8]) -> (seatboard::Board, Option<Answer>) {
+    let end = match board.steps(feed) {
+        Ok(mut steps) => {
+            // Each chunk takes a byte: there is no step beyond these.
+            steps.by_ref().take(feed.len() + 1).for_each(drop);
+            steps.end()
+        }
+        Err(refused) => Some(Err(refused)),
+    };
+    (board, end.map(exact))
 }
 
 fn exact(end: Result<Accepted, Refused>) -> Answer {

@@ -1,19 +1,19 @@
 //! Compares the library under test with an independent second reader and writer of SMC chunks, a
-//! second walk of the house feed and of runs of chunks, and a second painter of symbols, and the
-//! board program with a second listing; and tries demand 3 on two boards.
+//! second walk of the house feed and of runs of chunks, by steps too, and a second painter of symbols,
+//! and the board program with a second listing; and tries demand 3 on two boards.
 //!
 //! The library is called through the package `seatboard`; the second ones are the package `second`.
-//! generate.rs makes boards and chunks, feeds.rs feeds of them, runs.rs runs, pictures.rs pairs of
-//! pictures to write, symbols.rs symbols to paint from the files of sprites.rs, right and wrong;
-//! compare.rs gives each to both and compares the answer and all that was lent; tally.rs,
-//! feed_tally.rs, run_tally.rs, write_tally.rs and symbol_tally.rs count what they had in them;
-//! examples.rs, block_examples.rs, padding_examples.rs, feed_examples.rs, run_examples.rs,
-//! write_examples.rs and symbol_examples.rs try both on paper 01's examples and on others made by
-//! hand, and drawings.rs on the symbols in examples/.
+//! generate.rs makes boards and chunks, feeds.rs feeds of them, runs.rs runs, steps.rs places in both,
+//! pictures.rs pairs of pictures to write, symbols.rs symbols to paint from the files of sprites.rs,
+//! right and wrong; compare.rs gives each to both and compares the answer and all that was lent;
+//! tally.rs, feed_tally.rs, run_tally.rs, step_tally.rs, write_tally.rs and symbol_tally.rs count what
+//! they had in them; examples.rs, block_examples.rs, padding_examples.rs, feed_examples.rs,
+//! run_examples.rs, step_examples.rs, write_examples.rs and symbol_examples.rs try both on paper 01's
+//! examples and on others made by hand, and drawings.rs on the symbols in examples/.
 //! Whatever reads chunks is lent a record, true to its map or not; record_examples.rs has some made by
 //! hand, and count_tally.rs counts what became of them.
-//! Each chunk written is read back by both readers, and each run is also handed over chunk by chunk
-//! and behind size numbers. program.rs runs the board program, on the cases of program_cases.rs and
+//! Each chunk written is read back by both readers, each run is also handed over chunk by chunk and
+//! behind size numbers, and each feed and run is also gone through step by step. program.rs runs the board program, on the cases of program_cases.rs and
 //! on random feeds (listings.rs). sequences.rs makes sequences of calls; kept.rs runs them beside the
 //! second reader, with the record handed on from call to call, and two_boards.rs on two boards.
 //!
@@ -23,11 +23,12 @@
 //! ```text
 //! cargo run --quiet --release --locked --offline --package compare -- [--seed N] [--chunks N]
 //!     [--feeds N]
-//!     [--case N | --feed N | --run N | --write N | --symbol N | --listing N | --sequence N]
+//!     [--case N | --feed N | --run N | --step N | --write N | --symbol N | --listing N | --sequence N]
 //! ```
 //!
-//! `--case N`, `--feed N`, `--run N`, `--write N`, `--symbol N`, `--listing N` and `--sequence N`
-//! replay one chunk, feed, run, write, symbol, listing or sequence of that seed and print all of it.
+//! `--case N`, `--feed N`, `--run N`, `--step N`, `--write N`, `--symbol N`, `--listing N` and
+//! `--sequence N` replay one chunk, feed, run, step, write, symbol, listing or sequence of that seed
+//! and print all of it.
 //! Each check prints `ok NAME` or `FAILED NAME: why`; the last line is `N passed, M failed`.
 
 mod block_examples;
@@ -54,6 +55,9 @@ mod run_tally;
 mod runs;
 mod sequences;
 mod sprites;
+mod step_examples;
+mod step_tally;
+mod steps;
 mod symbol_examples;
 mod symbol_tally;
 mod symbols;
@@ -73,13 +77,15 @@ use feeds::FeedCase;
 use generate::{Board, Case};
 use pictures::WriteCase;
 use replay::{
-    board_in_short, case_in_short, feed_in_short, run_in_short, sequence_in_short, symbol_in_short,
-    write_in_short, Replay,
+    board_in_short, case_in_short, feed_in_short, run_in_short, sequence_in_short, step_in_short,
+    symbol_in_short, write_in_short, Replay,
 };
 use report::{compare_each, Report};
 use run_tally::RunTally;
 use runs::RunCase;
 use sequences::Sequence;
+use step_tally::StepTally;
+use steps::StepCase;
 use symbol_tally::SymbolTally;
 use symbols::SymbolCase;
 use tally::{Numbers, Tally, Things};
@@ -87,6 +93,7 @@ use write_tally::WriteTally;
 
 const BOARDS: u64 = 20_000;
 const RUNS: u64 = 20_000;
+const STEPS: u64 = 20_000;
 const WRITES: u64 = 40_000;
 const SYMBOLS: u64 = 40_000;
 const SEQUENCES: u64 = 20_000;
@@ -109,8 +116,8 @@ fn main() -> ExitCode {
         Ok(options) => options,
         Err(why) => {
             eprintln!(
-                "{why}; known are --seed, --chunks, --feeds, --case, --feed, --run, --write, \
-                 --symbol, --listing and --sequence"
+                "{why}; known are --seed, --chunks, --feeds, --case, --feed, --run, --step, \
+                 --write, --symbol, --listing and --sequence"
             );
             return ExitCode::from(2);
         }
@@ -121,7 +128,7 @@ fn main() -> ExitCode {
     let (seed, chunks, feeds) = (options.seed, options.chunks, options.feeds);
     println!(
         "seed {seed}, {chunks} chunks, {BOARDS} maps, {feeds} feeds, {RUNS} runs, \
-         {WRITES} writes, {SYMBOLS} symbols, {} listings, {SEQUENCES} sequences with records and \
+         {STEPS} steps, {WRITES} writes, {SYMBOLS} symbols, {} listings, {SEQUENCES} sequences with records and \
          on two boards",
         listings::FEEDS
     );
@@ -130,6 +137,7 @@ fn main() -> ExitCode {
     check_reading(&options, &mut report);
     check_walks(&options, &mut report);
     check_runs(seed, &mut report);
+    check_steps(seed, &mut report);
     check_writes(seed, &mut report);
     check_symbols(seed, &mut report);
     check_program(seed, &mut report);
@@ -211,6 +219,7 @@ fn check_walks(options: &Options, report: &mut Report) {
     let compared = compare_feeds(&format!("seed {seed}, feed"), cases, &mut tally);
     report.check("feeds compared", compared);
     report.check_counts("walks: every number", ENOUGH, tally.end_counts());
+    report.check_counts("feed sizes: every number", ENOUGH, tally.size_counts());
     report.check_counts("walks: 12 and 13", ENOUGH, tally.number_counts());
     report.check_counts("walks: orders", ENOUGH, tally.order_counts());
     report.check_counts("walks: chunks", ENOUGH, tally.chunk_counts());
@@ -243,6 +252,21 @@ fn check_runs(seed: u64, report: &mut Report) {
     let name = format!("seed {seed}, long run");
     let compared = compare_runs(&name, runs::long_cases(seed), &mut RunTally::default());
     report.check("long runs compared", compared);
+}
+
+fn check_steps(seed: u64, report: &mut Report) {
+    let examples = step_examples::check(&SECOND);
+    report.check("second walk: steps and sizes made by hand", examples);
+    let examples = step_examples::check(&LIBRARY);
+    report.check("library: steps and sizes made by hand", examples);
+
+    let mut tally = StepTally::default();
+    let cases = (0..STEPS).map(|number| steps::case(seed, number));
+    let compared = compare_steps(&format!("seed {seed}, step"), cases, &mut tally);
+    report.check("steps compared", compared);
+    report.check_counts("steps: every number", ENOUGH, tally.number_counts());
+    report.check_counts("steps: places", ENOUGH, tally.place_counts());
+    report.check_counts("steps: chunks", ENOUGH, tally.chunk_counts());
 }
 
 fn check_writes(seed: u64, report: &mut Report) {
@@ -338,6 +362,7 @@ fn options() -> Result<Options, String> {
             "--case" => options.replay = Some(Replay::Case(value)),
             "--feed" => options.replay = Some(Replay::Feed(value)),
             "--run" => options.replay = Some(Replay::Run(value)),
+            "--step" => options.replay = Some(Replay::Step(value)),
             "--write" => options.replay = Some(Replay::Write(value)),
             "--symbol" => options.replay = Some(Replay::Symbol(value)),
             "--listing" => options.replay = Some(Replay::Listing(value)),
@@ -405,6 +430,19 @@ fn compare_runs(
         compared.differences
     };
     compare_each(name, cases, differences, run_in_short)
+}
+
+fn compare_steps(
+    name: &str,
+    cases: impl IntoIterator<Item = StepCase>,
+    tally: &mut StepTally,
+) -> Result<(), String> {
+    let differences = |case: &StepCase| {
+        let compared = compare::walk_step(case);
+        tally.add(case, &compared);
+        compared.differences
+    };
+    compare_each(name, cases, differences, step_in_short)
 }
 
 fn compare_writes(

@@ -1,11 +1,11 @@
-//! One case of a comparison again, with all of it printed: a chunk, feed, run, write, symbol,
+//! One case of a comparison again, with all of it printed: a chunk, feed, run, step, write, symbol,
 //! listing or sequence.
 
 use std::process::ExitCode;
 
 use seatboard::Size;
 use second::listing;
-use second::walk::Walk;
+use second::walk::{Step, Walk};
 
 use crate::compare;
 use crate::feeds::{self, FeedCase};
@@ -15,6 +15,7 @@ use crate::pictures::{self, WriteCase};
 use crate::program::{self, Handed};
 use crate::runs::{self, RunCase};
 use crate::sequences::{self, Call, Sequence};
+use crate::steps::{self, StepCase};
 use crate::symbols::{self, SymbolCase};
 use crate::two_boards;
 
@@ -23,6 +24,7 @@ pub enum Replay {
     Case(u64),
     Feed(u64),
     Run(u64),
+    Step(u64),
     Write(u64),
     Symbol(u64),
     Listing(u64),
@@ -35,6 +37,7 @@ impl Replay {
             Replay::Case(number) => chunk(seed, number),
             Replay::Feed(number) => feed(seed, number),
             Replay::Run(number) => run(seed, number),
+            Replay::Step(number) => step(seed, number),
             Replay::Write(number) => write(seed, number),
             Replay::Symbol(number) => symbol(seed, number),
             Replay::Listing(number) => listing(seed, number),
@@ -76,6 +79,18 @@ fn run(seed: u64, number: u64) -> Vec<String> {
     let compared = compare::walk_run(&case);
     print_walk(&compared.walk);
     println!("{} accepted", compared.walk.accepted());
+    compared.differences
+}
+
+fn step(seed: u64, number: u64) -> Vec<String> {
+    let case = steps::case(seed, number);
+    print_board(&format!("seed {seed}, step {number}"), &case.board);
+    println!("at {} of {:02X?}", case.at, case.bytes);
+    let compared = compare::walk_step(&case);
+    match compared.step {
+        Step::Chunk(chunk, next) => println!("second walk's {chunk:?}, next {next}"),
+        Step::End(end) => println!("second walk's end {end:?}"),
+    }
     compared.differences
 }
 
@@ -174,6 +189,11 @@ pub fn feed_in_short(FeedCase { board, feed }: &FeedCase) -> String {
 
 pub fn run_in_short(RunCase { board, run }: &RunCase) -> String {
     format!("{}, run {}", board_in_short(board), bytes_in_short(run))
+}
+
+pub fn step_in_short(StepCase { board, bytes, at }: &StepCase) -> String {
+    let (board, bytes) = (board_in_short(board), bytes_in_short(bytes));
+    format!("{board}, at {at} of {bytes}")
 }
 
 pub fn write_in_short(WriteCase { board, new, output }: &WriteCase) -> String {

@@ -18,8 +18,8 @@ const LENT: Size = size(8, 4);
 
 /// Accepted, and changes nothing; refused with 3; refused with 8. With their lengths in front.
 pub const KEPT: [u8; 6] = [5, 0xE1, 0, 0, 5, 0x01];
-const EMPTY: [u8; 1] = [0];
-const REFUSED: [u8; 6] = [5, 0xE1, 0, 0, 5, 0x21];
+pub const EMPTY: [u8; 1] = [0];
+pub const REFUSED: [u8; 6] = [5, 0xE1, 0, 0, 5, 0x21];
 
 struct Example {
     case: RunCase,
@@ -230,7 +230,7 @@ fn cut_everywhere() -> Vec<Example> {
 }
 
 /// Number, size, and the lengths of picture and map.
-const REFUSED_BOARDS: [(u8, Size, usize, usize); 20] = [
+pub const REFUSED_BOARDS: [(u8, Size, usize, usize); 20] = [
     (1, size(6, 4), 32, 2),
     (1, size(8, 3), 32, 2),
     (1, size(0, 4), 0, 0),

@@ -21,6 +21,11 @@ pub const BACKLOG: usize = 40;
 pub fn case(seed: u64, number: u64) -> RunCase {
     let random = &mut Random::for_case(seed ^ RUNS, number);
     let size = generate::allowed_size(random);
+    any_case(random, size)
+}
+
+/// Chunks for that size; the board need not be right.
+pub fn any_case(random: &mut Random, size: Size) -> RunCase {
     let board = match random.below(16) {
         0 | 1 => generate::board_of_wrong_size(random, size),
         2 | 3 => generate::board_of_wrong_lengths(random, size),

@@ -10,7 +10,7 @@ use crate::generate::Case;
 
 /// How many calls got each number.
 #[derive(Default)]
-pub struct Numbers([usize; 1 + Reason::ALL.len()]);
+pub struct Numbers([usize; 1 + Reason::BadCount.number() as usize]);
 
 impl Numbers {
     pub fn add(&mut self, number: u8) {
@@ -18,11 +18,14 @@ impl Numbers {
     }
 
     /// For the numbers that such a call can have.
-    pub fn counts(&self, calls: &str, possible: impl IntoIterator<Item = usize>) -> Counts {
-        let count = |number: usize| {
-            let refused = number.checked_sub(1).map(|place| Reason::ALL[place]);
-            let meaning = refused.map_or("accepted".into(), |reason| reason.to_string());
-            (format!("{calls} {number}: {meaning}"), self.0[number])
+    pub fn counts(&self, calls: &str, possible: impl IntoIterator<Item = u8>) -> Counts {
+        let count = |number: u8| {
+            let meaning = match number {
+                0 => "accepted".into(),
+                refused => Reason::numbered(refused).to_string(),
+            };
+            let times = self.0[usize::from(number)];
+            (format!("{calls} {number}: {meaning}"), times)
         };
         possible.into_iter().map(count).collect()
     }

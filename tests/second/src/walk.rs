@@ -1,6 +1,7 @@
 //! The independent second walk of the house feed, written from paper 01, "The house feed and the
-//! board program", and of a run of chunks (02, Ask 2), from nothing of ours. Each chunk goes to the
-//! second reader, with the record that the one before it left (02, Ask 5).
+//! board program", and of a run of chunks (02, Ask 2), from nothing of ours; a feed's size by itself,
+//! and one step of a walk. Each chunk goes to the second reader, with the record that the one before it
+//! left (02, Ask 5).
 //!
 //! What each chunk answered is kept, for the second listing (listing.rs) and the tally.
 
@@ -89,6 +90,24 @@ impl Walk {
     }
 }
 
+/// What stood at one place of a feed or run.
+pub enum Step {
+    /// A chunk, which was read, and the place after it.
+    Chunk(ChunkRead, usize),
+    /// None; how a walk ends that has come so far.
+    End(Result<At, Stop>),
+}
+
+impl Step {
+    pub fn number_and_at(&self) -> (u8, At) {
+        match self {
+            Step::Chunk(read, _) => (read.number, read.at),
+            Step::End(Ok(used)) => (0, *used),
+            Step::End(Err(stop)) => stop.number_and_at(),
+        }
+    }
+}
+
 /// 02: 2 where the feed's size is not the record's, once it has been found allowed.
 pub fn walk(record: &mut Record, feed: &[u8], picture: &mut [u8], map: &mut [u16]) -> Walk {
     let lent = Lent {
@@ -115,6 +134,24 @@ pub fn walk_run(record: &mut Record, run: &[u8], picture: &mut [u8], map: &mut [
     Walk::of(|chunks| walk_chunks(run, 0, lent, chunks))
 }
 
+/// One step of either walk: the chunk whose length stands at this place. There need not be one, nor
+/// such a place.
+pub fn step(
+    record: &mut Record,
+    bytes: &[u8],
+    place: usize,
+    picture: &mut [u8],
+    map: &mut [u16],
+) -> Step {
+    let mut lent = Lent {
+        record,
+        picture,
+        map,
+    };
+    lent.step(bytes, place)
+        .unwrap_or_else(|stop| Step::End(Err(stop)))
+}
+
 /// The size in pixels and the place after its two numbers. 01: it is checked after both are read.
 pub fn size(feed: &[u8]) -> Result<((usize, usize), usize), Stop> {
     let (across, after) = number(feed, 0, Number::Width)?;
@@ -137,20 +174,43 @@ fn walk_chunks(
     mut lent: Lent,
     chunks: &mut Vec<ChunkRead>,
 ) -> Result<At, Stop> {
-    reader::check_lent(lent.record.size, lent.picture, lent.map).map_err(Stop::Board)?;
-    while at < bytes.len() {
-        let (length, first) = number(bytes, at, Number::ChunkLength)?;
-        let rest = &bytes[first..];
-        if rest.len() < length {
-            return Err(Stop::CutChunk(first));
-        }
-        chunks.push(lent.read(first, &rest[..length])?);
-        at = first + length;
+    lent.check()?;
+    while let Some((first, chunk)) = chunk_behind(bytes, at)? {
+        chunks.push(lent.read(first, chunk)?);
+        at = first + chunk.len();
     }
-    Ok(At::end(at, lent.map))
+    Ok(At::end(bytes.len(), lent.map))
+}
+
+/// The chunk whose length stands at a place, and where it begins; none where the bytes are used up.
+fn chunk_behind(bytes: &[u8], place: usize) -> Result<Option<(usize, &[u8])>, Stop> {
+    if place >= bytes.len() {
+        return Ok(None);
+    }
+    let (length, first) = number(bytes, place, Number::ChunkLength)?;
+    let chunk = bytes[first..].get(..length);
+    chunk
+        .map(|chunk| Some((first, chunk)))
+        .ok_or(Stop::CutChunk(first))
 }
 
 impl Lent<'_> {
+    /// 1 and 2.
+    fn check(&self) -> Result<(), Stop> {
+        reader::check_lent(self.record.size, self.picture, self.map).map_err(Stop::Board)
+    }
+
+    fn step(&mut self, bytes: &[u8], place: usize) -> Result<Step, Stop> {
+        self.check()?;
+        match chunk_behind(bytes, place)? {
+            Some((first, chunk)) => {
+                let read = self.read(first, chunk)?;
+                Ok(Step::Chunk(read, first + chunk.len()))
+            }
+            None => Ok(Step::End(Ok(At::end(bytes.len(), self.map)))),
+        }
+    }
+
     /// 01: read just as that chunk is read by itself; a refusal is kept and does not end the walk.
     fn read(&mut self, first: usize, chunk: &[u8]) -> Result<ChunkRead, Stop> {
         let reading = reader::read_chunk(self.record, chunk, self.picture, self.map);

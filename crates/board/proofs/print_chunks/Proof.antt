@@ -1,9 +1,9 @@
 use Prim.Native.Nat.{_+_, _-_, _≤_}
 use mathlib.Core.Path.{_≡_, refl, _∙_}
+use mathlib.Core.Bool.{Bool, true, false, not, true≢false}
 use native.Mathlib.Omega.{arith}
-use borrow.Author.Needs.{needs}
 use lib.ListN.{length}
-use Rattle.feed.proofs.Walking.{walking-none, step-onward}
+use Rattle.feed.proofs.Walking.{step-further}
 use Rattle.board.proofs.print_chunks.Statement.{statement}
 use Rattle.board.proofs.print_chunks.Tie as tie
 
@@ -23,15 +23,9 @@ list-step-requires c κs = tt
 print-requires : tie.Need-print-requires Inv-loop μ-loop
 print-requires c κs = c .before .before .before .before .list-step .ensures .1 .1 .1 .1
 
-enum-known-step : tie.Need-enum-known-step Inv-loop μ-loop
-enum-known-step c = search needs
-
-enum-told : tie.Need-enum-told Inv-loop μ-loop
-enum-told c = search needs
-
 -- the places that the answers look back to
-abbrev at-loop : tie.After-enum-told Inv-loop μ-loop → tie.At-loop Inv-loop μ-loop
-at-loop c = c .before .before .before .before .before .before .before .before .before .before
+abbrev at-loop : tie.Then1 Inv-loop μ-loop → tie.At-loop Inv-loop μ-loop
+at-loop c = c .before .before .before .before .before .before .before .before .before .before .before
 
 abbrev after-picture : tie.After-kept Inv-loop μ-loop → tie.After-picture Inv-loop μ-loop
 after-picture c = c .before .before .before .before .before .before .before .before
@@ -40,33 +34,34 @@ abbrev at-loop₂ : tie.After-kept Inv-loop μ-loop → tie.At-loop Inv-loop μ-
 at-loop₂ c = after-picture c .before .before .before .before
 
 same-length : tie.Need-same-length Inv-loop μ-loop
-same-length c = c .before .before .before .before .before .before .picture .given ∙ at-loop c .loop .inv .0
+same-length c = c .before .before .before .before .before .before .before .picture .given ∙ at-loop c .loop .inv .0
 
 same-length-2 : tie.Need-same-length-2 Inv-loop μ-loop
-same-length-2 c = c .before .before .before .before .map .given ∙ at-loop c .loop .inv .1
+same-length-2 c = c .before .before .before .before .before .map .given ∙ at-loop c .loop .inv .1
 
 returns : tie.Need-returns Inv-loop μ-loop
 returns c = tt
 
+held : (b : Bool) → not b ≡ false → b ≡ true
+held true e = refl
+held false e = absurd (true≢false e)
+
 add-chunk : tie.Need-add-chunk Inv-loop μ-loop
 add-chunk c =
-    let step = after-picture c .before .list-step .ensures .0 in
-    let o = step-onward (walking-none _ _ _ _ _) step (c .before .before .step .given .1) in
-    omega (arith, o .further, o .within, at-loop₂ c .before .before .before .before .good .1 .0 .1, at-loop₂ c .loop .inv .2)
+    let o = step-further _ _ _ _ (after-picture c .before .list-step .ensures .0) (held _ (c .before .if1 .left)) in
+    omega (arith, o .0, o .1, at-loop₂ c .before .before .before .before .good .1 .0 .1, at-loop₂ c .loop .inv .2)
 
 loop-less : tie.Need-loop-less Inv-loop μ-loop
 loop-less c =
-    let step = after-picture c .before .list-step .ensures .0 in
-    let o = step-onward (walking-none _ _ _ _ _) step (c .before .before .step .given .1) in
-    omega (arith, o .further, o .within)
+    let o = step-further _ _ _ _ (after-picture c .before .list-step .ensures .0) (held _ (c .before .if1 .left)) in
+    omega (arith, o .0, o .1)
 
 loop-again : tie.Need-loop-again Inv-loop μ-loop
 loop-again c =
-    let step = after-picture c .before .list-step .ensures .0 in
-    let o = step-onward (walking-none _ _ _ _ _) step (c .before .before .step .given .1) in (
+    let o = step-further _ _ _ _ (after-picture c .before .list-step .ensures .0) (held _ (c .before .if1 .left)) in (
       after-picture c .picture .given ∙ at-loop₂ c .loop .inv .0,
       c .before .before .before .before .before .before .map .given ∙ at-loop₂ c .loop .inv .1,
-      omega (arith, o .further, at-loop₂ c .loop .inv .2),
+      omega (arith, o .0, at-loop₂ c .loop .inv .2),
     )
 
 pub print-chunks-spec : {M : Type 1} → statement M
@@ -78,8 +73,6 @@ print-chunks-spec =
     loop-holds
     list-step-requires
     print-requires
-    enum-known-step
-    enum-told
     same-length
     same-length-2
     returns

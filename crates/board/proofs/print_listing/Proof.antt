@@ -1,4 +1,3 @@
-use mathlib.Core.Path.{sym, _∙_}
 use native.Mathlib.Omega.{arith}
 use Rattle.feed.proofs.Deciding.{shown}
 use borrow.Author.Needs.{needs}
@@ -36,7 +35,9 @@ slice-aggregate-print-board-2 : tie.Need-slice-aggregate-print-board-2
 slice-aggregate-print-board-2 c = search needs
 
 print-board-requires : tie.Need-print-board-requires
-print-board-requires c κs = let h = shown _ (sym (c .before .before .before .before .before .decide .ensures) ∙ c .before .before .before .size .given .1) in (h .few, omega (arith, h .few-blocks))
+print-board-requires c κs =
+    let h = shown _ _ (c .before .before .before .before .before .decide .ensures) (c .before .before .before .size .given .1) in
+    (h .few, omega (arith, h .few-blocks))
 
 returns : tie.Need-returns
 returns c = search needs

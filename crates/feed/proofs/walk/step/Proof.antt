@@ -1,39 +1,39 @@
-use Rattle.spec.specs.declared.Step.the-variants as Step
-use mathlib.Core.Path.{refl, sym, ap, _∙_}
-use Rattle.spec.specs.Feeds.{walkStep}
-use Rattle.spec.proofs.Feeds.{chunk-lies}
+use mathlib.Core.Path.{refl, ap, _∙_}
+use Rattle.spec.specs.Boards.{board}
+use Rattle.spec.specs.Feeds.{noChunk}
+use Rattle.feed.proofs.Opening.{board-entries, step-refused, step-goes}
 use borrow.Author.Needs.{needs}
 use Rattle.feed.proofs.walk.step.Statement.{statement}
 use Rattle.feed.proofs.walk.step.Tie as tie
 
-next-at-requires : tie.Need-next-at-requires
-next-at-requires c κs = search needs
+board-fault-requires : tie.Need-board-fault-requires
+board-fault-requires c κs = search needs
 
-enum-known-answer : tie.Need-enum-known-answer
-enum-known-answer c = search needs
+refusal-requires : tie.Need-refusal-requires
+refusal-requires c κs = search needs
 
-ended-requires : tie.Need-ended-requires
-ended-requires c κs = search needs
+no-chunk-requires : tie.Need-no-chunk-requires
+no-chunk-requires c κs = search needs
 
-enum-known-first : tie.Need-enum-known-first
-enum-known-first c = search needs
+-- the places that the answers look back to
+abbrev else1 : tie.After-slice-known4 → tie.Else1
+else1 c = c .before .before .before .before .before .before .before
 
-sub-read-chunk : tie.Need-sub-read-chunk
-sub-read-chunk c = chunk-lies _ _ (sym (c .before .before .before .next-at .ensures) ∙ c .before .first .given .1) .up
-
-part-read-chunk-start : tie.Need-part-read-chunk-start
-part-read-chunk-start c = chunk-lies _ _ (sym (c .before .before .before .next-at .ensures) ∙ c .before .first .given .1) .up
-
-part-read-chunk-end : tie.Need-part-read-chunk-end
-part-read-chunk-end c = chunk-lies _ _ (sym (c .before .before .before .next-at .ensures) ∙ c .before .first .given .1) .within
-
-read-chunk-requires : tie.Need-read-chunk-requires
-read-chunk-requires c κs = search needs
+abbrev start : tie.After-board-fault → tie.Start
+start c = c .before .before .before .before .before
 
 returns : tie.Need-returns
-unfolding walkStep
 returns c =
-    rw (← c .before .before .before .before .next-at .ensures, c .before .before .answer .given .1) (ap Step.End (c .ended .ensures), (refl, refl))
+    let a = start (c .before .before .before) .args in
+    let b = board (a .picture .now) (a .map .now) (a .kept .unsettled) in
+    let e = step-refused (a .kept .size) (a .feed .now) (a .at) b (c .before .before .before .board-fault .ensures) (c .before .before .if1 .taken) in
+    rw e (c .no-chunk .ensures ∙ ap (noChunk _ _) (c .before .refusal .ensures), (refl, refl))
+
+step-behind-requires : tie.Need-step-behind-requires
+step-behind-requires c κs =
+    let a = start (c .before .before .before) .args in
+    let b = board (a .picture .now) (a .map .now) (a .kept .unsettled) in
+    board-entries (a .kept .size) b (c .before .before .before .board-fault .ensures) (c .before .before .if1 .left)
 
 same-length : tie.Need-same-length
 same-length c = search needs
@@ -41,31 +41,22 @@ same-length c = search needs
 same-length-2 : tie.Need-same-length-2
 same-length-2 c = search needs
 
--- the places that the answers look back to
-abbrev after-first : tie.After-slice-known4 → tie.After-first
-after-first c = c .before .before .before .before .before .before .before .before .before
-
 returns-2 : tie.Need-returns-2
-unfolding walkStep
 returns-2 c =
-    let past = after-first c .first .given .0 .1 .0 in
-    let read = c .before .before .before .before .read-chunk .ensures in
-    rw (← after-first c .before .before .next-at .ensures, after-first c .first .given .1)
-    ((λ i. Step.Chunk (record { answer = read .0 i; kept = read .1 .0 i }) past), read .1 .1)
+    let a = start (else1 c .before) .args in
+    let b = board (a .picture .now) (a .map .now) (a .kept .unsettled) in
+    rw (step-goes (a .kept .size) (a .feed .now) (a .at) b (else1 c .before .board-fault .ensures) (else1 c .if1 .left))
+    (c .before .before .before .before .step-behind .ensures)
 
 pub step-spec : {M : Type 1} → statement M
 step-spec =
     tie.close
     (tie.spec
-    next-at-requires
-    enum-known-answer
-    ended-requires
-    enum-known-first
-    sub-read-chunk
-    part-read-chunk-start
-    part-read-chunk-end
-    read-chunk-requires
+    board-fault-requires
+    refusal-requires
+    no-chunk-requires
     returns
+    step-behind-requires
     same-length
     same-length-2
     returns-2)

@@ -1,4 +1,6 @@
+use Rattle.spec.specs.Boards.{board}
 use Rattle.spec.specs.Feeds.{walkRun}
+use Rattle.feed.proofs.Opening.{board-entries}
 use borrow.Author.Needs.{needs}
 use Rattle.feed.proofs.walk.walk_run.Statement.{statement}
 use Rattle.feed.proofs.walk.walk_run.Tie as tie
@@ -7,7 +9,10 @@ board-fault-requires : tie.Need-board-fault-requires
 board-fault-requires c κs = search needs
 
 walk-chunks-requires : tie.Need-walk-chunks-requires
-walk-chunks-requires c κs = search needs
+walk-chunks-requires c κs =
+    let a = c .before .before .before .before .before .before .before .args in
+    let b = board (a .picture .now) (a .map .now) (a .kept .unsettled) in
+    board-entries (a .kept .size) b (c .before .before .board-fault .ensures)
 
 same-length : tie.Need-same-length
 same-length c = search needs

@@ -3,10 +3,12 @@ use mathlib.Core.List.{List}
 use mathlib.Core.Path.{ap, _∙_}
 use native.Mathlib.Omega.{arith}
 use borrow.Author.Needs.{needs}
+use Rattle.spec.specs.Basics.{if}
 use Rattle.spec.specs.Pictures.{putBlock}
-use Rattle.smc.proofs.Flagged.{four-chosen, octet-rows}
+use Rattle.spec.specs.Flags.{flags, chosen}
+use Rattle.spec.proofs.Octets.{octet-step}
 use Rattle.blocks.proofs.Rowwise.{few, span}
-use Rattle.smc.proofs.RowsPut.{put-rows}
+use Rattle.smc.proofs.RowsPut.{four, put-rows}
 use Rattle.smc.proofs.flags.put_octet.Statement.{statement}
 use Rattle.smc.proofs.flags.put_octet.Tie as tie
 
@@ -63,25 +65,24 @@ put-octet-row-requires-4 c κs = omega (arith, span _ _ _ _ (start₃ c .pre .0)
 same-length : tie.Need-same-length
 same-length c = search needs
 
--- by `let`s: a tactic looks into a helper
+-- what the four rows have stored names what the theorem of the octet step says. By `let`s: a tactic looks into a helper
 returns : tie.Need-returns
+unfolding flags if
 returns c =
     let after-put-octet-row3 = c .before .before .before .before .before .before in
     let after-put-octet-row2 = after-put-octet-row3 .before .before .before .before in
     let after-put-octet-row = after-put-octet-row2 .before .before .before .before in
     let start = after-put-octet-row .before .before .before .before .before in
     let a = start .args in
-    let cs = a .t .now in
     rw (
       c .before .before .put-octet-row4 .ensures,
       after-put-octet-row3 .put-octet-row3 .ensures,
       after-put-octet-row2 .put-octet-row2 .ensures,
       after-put-octet-row .put-octet-row .ensures,
     )
-    (put-rows _ _ _ (after-put-octet-row .before .before .place-of .ensures) _ (four-chosen 3 _ cs) (four-chosen 3 _ cs)
-    (four-chosen 3 _ cs) (four-chosen 3 _ cs)
-    ∙ ap (λ (px : List ℕ). putBlock (a .c) (a .k) px (a .pic .now))
-    (octet-rows cs (a .f0) (a .f1) (a .f2) (a .f3) (a .f4) (a .f5) (omega arith) (omega arith) (omega arith) (omega arith)))
+    (put-rows _ _ _ (after-put-octet-row .before .before .place-of .ensures) _ four four four four
+    ∙ ap (λ (is : List ℕ). putBlock (a .c) (a .k) (chosen is (a .t .now)) (a .pic .now))
+    (octet-step (a .f0) (a .f1) (a .f2) (a .f3) (a .f4) (a .f5) (omega arith) (omega arith) (omega arith) (omega arith) (omega arith) (omega arith)))
 
 pub put-octet-spec : {M : Type 1} → statement M
 put-octet-spec =

@@ -1,11 +1,4 @@
-use Prim.Native.Nat.{ℕ}
-use mathlib.Core.List.{List}
-use mathlib.Core.Path.{ap, _∙_}
-use native.Mathlib.Omega.{arith}
-use lib.Seq.{sets}
 use borrow.Author.Needs.{needs}
-use Rattle.spec.specs.Flags.{chosen}
-use Rattle.spec.proofs.Octets.{octet-row}
 use Rattle.smc.proofs.flags.put_octet_row.Statement.{statement}
 use Rattle.smc.proofs.flags.put_octet_row.Tie as tie
 
@@ -46,10 +39,7 @@ same-length : tie.Need-same-length
 same-length c = search needs
 
 returns : tie.Need-returns
-returns c =
-    let a = c .before .before .before .before .before .before .before .before .before .before .args in
-    c .before .before .put-four .ensures
-    ∙ ap (λ (is : List ℕ). sets (a .pic .now) (a .p) (chosen is (a .t .now))) (octet-row (a .f) (a .g) (omega arith) (omega arith))
+returns c = c .before .before .put-four .ensures
 
 pub put-octet-row-spec : {M : Type 1} → statement M
 put-octet-row-spec =

@@ -6,7 +6,7 @@ use native.Mathlib.Omega.{arith}
 use lib.ListN.{length}
 use borrow.Author.Needs.{needs}
 use Rattle.sprite.specs.Frames.{Shade, Ended}
-use Rattle.sprite.proofs.RowHeads.{is-blank, is-data}
+use Rattle.sprite.proofs.RowHeads.{row-head-told, is-blank, is-data}
 use Rattle.sprite.proofs.Progress.{InFrame, frame-begins, frame-ends, frame-bad-row, frame-blank, frame-data, frame-bad-segment}
 use Rattle.sprite.proofs.check.check_rows.Statement.{statement}
 use Rattle.sprite.proofs.check.check_rows.Tie as tie
@@ -31,7 +31,8 @@ enum-told c = search needs
 
 returns : tie.Need-returns Inv-loop μ-loop
 returns c =
-    let e = frame-bad-row (c .before .before .before .before .loop .inv .1) (c .before .before .before .loop-test .taken) (sym (c .enum-told .given .1) ∙ c .before .before .row-at .ensures) in
+    let e = frame-bad-row (c .before .before .before .before .loop .inv .1) (c .before .before .before .loop-test .taken)
+    (row-head-told (c .enum-told .given .1) (c .before .before .row-at .ensures)) in
     sym (ap (λ (r : Ended (List Shade)). r .number) e)
 
 enum-known-count : tie.Need-enum-known-count Inv-loop μ-loop
@@ -39,24 +40,28 @@ enum-known-count c = search needs
 
 add-y : tie.Need-add-y Inv-loop μ-loop
 add-y c =
-    let k = frame-blank (c .before .before .before .before .before .loop .inv .1) (c .before .before .before .before .loop-test .taken) (sym (c .before .count .given .1) ∙ c .before .before .before .row-at .ensures) in
+    let k = frame-blank (c .before .before .before .before .before .loop .inv .1) (c .before .before .before .before .loop-test .taken)
+    (row-head-told (c .before .count .given .1) (c .before .before .before .row-at .ensures)) in
     record { fits = omega (arith, k .fits, c .before .before .before .before .before .before .before .fits .height .fits) }
 
 add-at : tie.Need-add-at Inv-loop μ-loop
 add-at c =
     let a = c .before .before .before .before .before .before .before .args in
-    let k = is-blank (a .s .now) _ _ _ (sym (c .before .count .given .1) ∙ c .before .before .before .row-at .ensures) in
+    let k = is-blank (a .s .now) _ _ _ (row-head-told (c .before .count .given .1) (c .before .before .before .row-at .ensures)) in
     omega (arith, k .head)
 
 loop-less : tie.Need-loop-less Inv-loop μ-loop
 loop-less c =
     let a = c .before .before .before .before .before .before .before .args in
-    let k = is-blank (a .s .now) _ _ _ (sym (c .before .count .given .1) ∙ c .before .before .before .row-at .ensures) in
+    let k = is-blank (a .s .now) _ _ _ (row-head-told (c .before .count .given .1) (c .before .before .before .row-at .ensures)) in
     omega (arith, k .head)
 
 loop-again : tie.Need-loop-again Inv-loop μ-loop
-loop-again c =
-    (_, frame-blank (c .before .before .before .before .before .loop .inv .1) (c .before .before .before .before .loop-test .taken) (sym (c .before .count .given .1) ∙ c .before .before .before .row-at .ensures))
+loop-again c = (
+  _,
+  frame-blank (c .before .before .before .before .before .loop .inv .1) (c .before .before .before .before .loop-test .taken)
+      (row-head-told (c .before .count .given .1) (c .before .before .before .row-at .ensures)),
+)
 
 enum-known-end : tie.Need-enum-known-end Inv-loop μ-loop
 enum-known-end c = search needs
@@ -64,20 +69,23 @@ enum-known-end c = search needs
 add-check-row : tie.Need-add-check-row Inv-loop μ-loop
 add-check-row c =
     let a = c .before .before .before .before .before .before .before .args in
-    let k = is-data (a .s .now) _ _ _ (sym (c .before .end .given .1) ∙ c .before .before .before .row-at .ensures) in
+    let k = is-data (a .s .now) _ _ _ (row-head-told (c .before .end .given .1) (c .before .before .before .row-at .ensures)) in
     omega (arith, k .head, k .within)
 
 check-row-requires : tie.Need-check-row-requires Inv-loop μ-loop
 check-row-requires c κs =
     let a = c .before .before .before .before .before .before .before .args in
-    let k = is-data (a .s .now) _ _ _ (sym (c .before .end .given .1) ∙ c .before .before .before .row-at .ensures) in
+    let k = is-data (a .s .now) _ _ _ (row-head-told (c .before .end .given .1) (c .before .before .before .row-at .ensures)) in
     let h = k .head in
     (omega arith, k .within)
 
 returns-2 : tie.Need-returns-2 Inv-loop μ-loop
 returns-2 c =
     let n = c .before .check-row .ensures in
-    let e = frame-bad-segment (c .before .before .before .before .before .before .before .loop .inv .1) (c .before .before .before .before .before .before .loop-test .taken) (sym (c .before .before .before .end .given .1) ∙ c .before .before .before .before .before .row-at .ensures) (λ o. c .if1 .taken (n ∙ o)) in
+    let e = frame-bad-segment (c .before .before .before .before .before .before .before .loop .inv .1)
+    (c .before .before .before .before .before .before .loop-test .taken)
+    (row-head-told (c .before .before .before .end .given .1) (c .before .before .before .before .before .row-at .ensures))
+    (λ o. c .if1 .taken (n ∙ o)) in
     n ∙ sym (ap (λ (r : Ended (List Shade)). r .number) e)
 
 add-y-2 : tie.Need-add-y-2 Inv-loop μ-loop
@@ -86,12 +94,17 @@ add-y-2 c = search needs
 loop-less-2 : tie.Need-loop-less-2 Inv-loop μ-loop
 loop-less-2 c =
     let a = c .before .before .before .before .before .before .before .before .before .args in
-    let k = is-data (a .s .now) _ _ _ (sym (c .before .before .before .end .given .1) ∙ c .before .before .before .before .before .row-at .ensures) in
+    let k = is-data (a .s .now) _ _ _ (row-head-told (c .before .before .before .end .given .1) (c .before .before .before .before .before .row-at .ensures)) in
     omega (arith, k .head, k .within)
 
 loop-again-2 : tie.Need-loop-again-2 Inv-loop μ-loop
-loop-again-2 c =
-    (_, frame-data (c .before .before .before .before .before .before .before .loop .inv .1) (c .before .before .before .before .before .before .loop-test .taken) (sym (c .before .before .before .end .given .1) ∙ c .before .before .before .before .before .row-at .ensures) (sym (c .before .check-row .ensures) ∙ c .if1 .left))
+loop-again-2 c = (
+  _,
+  frame-data (c .before .before .before .before .before .before .before .loop .inv .1)
+      (c .before .before .before .before .before .before .loop-test .taken)
+      (row-head-told (c .before .before .before .end .given .1) (c .before .before .before .before .before .row-at .ensures))
+      (sym (c .before .check-row .ensures) ∙ c .if1 .left),
+)
 
 check-marker-requires : tie.Need-check-marker-requires Inv-loop μ-loop
 check-marker-requires c κs = c .before .loop .inv .1 .place

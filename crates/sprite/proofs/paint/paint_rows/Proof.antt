@@ -5,13 +5,14 @@ use native.Mathlib.Omega.{arith}
 use lib.ListN.{length}
 use borrow.Author.Needs.{needs}
 use Rattle.sprite.specs.Frames.{Shade}
-use Rattle.sprite.proofs.RowHeads.{is-blank, is-data}
+use Rattle.sprite.proofs.RowHeads.{row-head-told, is-blank, is-data}
 use Rattle.sprite.proofs.Rowwise.{FramePainted, frame-unpainted, frame-painted, frame-length, no-bad-row, frame-paints-blank, frame-paints-on}
 use Rattle.sprite.proofs.paint.paint_rows.Statement.{statement}
 use Rattle.sprite.proofs.paint.paint_rows.Tie as tie
 
 abbrev Inv-loop : tie.InvT-loop
-Inv-loop size s frame left top picture₀ done₀ at₀ picture done at = (made : List (List Shade)) × FramePainted size s (frame .height) (frame .width) (frame .first) left top picture₀ done at picture made
+Inv-loop size s frame left top picture₀ done₀ at₀ picture done at =
+    (made : List (List Shade)) × FramePainted size s (frame .height) (frame .width) (frame .first) left top picture₀ done at picture made
 
 abbrev μ-loop : tie.MeasureT-loop
 μ-loop size s frame left top picture₀ done₀ at₀ picture done at = length s - at
@@ -29,39 +30,55 @@ enum-told : tie.Need-enum-told Inv-loop μ-loop
 enum-told c = search needs
 
 same-length : tie.Need-same-length Inv-loop μ-loop
-same-length c = frame-length (c .before .before .before .before .before .before .before .before .before .pre) (c .before .before .before .before .before .before .loop .inv .1) ∙ sym (c .before .before .before .before .before .before .before .before .before .pre .exact)
+same-length c =
+    frame-length (c .before .before .before .before .before .before .before .before .before .pre)
+    (c .before .before .before .before .before .before .loop .inv .1)
+    ∙ sym (c .before .before .before .before .before .before .before .before .before .pre .exact)
 
 returns : tie.Need-returns Inv-loop μ-loop
-returns c = absurd (no-bad-row (c .before .before .before .before .before .before .before .before .before .pre) (c .before .before .before .before .before .before .loop .inv .1) (c .before .before .before .before .if1 .taken) (sym (c .enum-told .given .1) ∙ c .before .before .row-at .ensures))
+returns c = absurd
+    (no-bad-row (c .before .before .before .before .before .before .before .before .before .pre)
+    (c .before .before .before .before .before .before .loop .inv .1) (c .before .before .before .before .if1 .taken)
+    (row-head-told (c .enum-told .given .1) (c .before .before .row-at .ensures)))
 
 enum-known-count : tie.Need-enum-known-count Inv-loop μ-loop
 enum-known-count c = search needs
 
 add-done : tie.Need-add-done Inv-loop μ-loop
 add-done c =
-    let k = frame-paints-blank (c .before .before .before .before .before .before .before .before .before .before .pre) (c .before .before .before .before .before .before .before .loop .inv .1) (c .before .before .before .before .before .if1 .taken) (sym (c .before .count .given .1) ∙ c .before .before .before .row-at .ensures) in
+    let k = frame-paints-blank (c .before .before .before .before .before .before .before .before .before .before .pre)
+    (c .before .before .before .before .before .before .before .loop .inv .1) (c .before .before .before .before .before .if1 .taken)
+    (row-head-told (c .before .count .given .1) (c .before .before .before .row-at .ensures)) in
     let h = c .before .before .before .before .before .before .before .before .before .before .pre .low in
     record { fits = omega (arith, k .read .fits) }
 
 add-at : tie.Need-add-at Inv-loop μ-loop
 add-at c =
-    let k = is-blank (c .before .before .before .before .before .before .before .before .before .before .args .s .now) _ _ _ (sym (c .before .count .given .1) ∙ c .before .before .before .row-at .ensures) in
+    let k = is-blank (c .before .before .before .before .before .before .before .before .before .before .args .s .now) _ _ _
+    (row-head-told (c .before .count .given .1) (c .before .before .before .row-at .ensures)) in
     omega (arith, k .head)
 
 loop-less : tie.Need-loop-less Inv-loop μ-loop
 loop-less c =
-    let k = is-blank (c .before .before .before .before .before .before .before .before .before .before .args .s .now) _ _ _ (sym (c .before .count .given .1) ∙ c .before .before .before .row-at .ensures) in
+    let k = is-blank (c .before .before .before .before .before .before .before .before .before .before .args .s .now) _ _ _
+    (row-head-told (c .before .count .given .1) (c .before .before .before .row-at .ensures)) in
     omega (arith, k .head)
 
 loop-again : tie.Need-loop-again Inv-loop μ-loop
-loop-again c = (_, frame-paints-blank (c .before .before .before .before .before .before .before .before .before .before .pre) (c .before .before .before .before .before .before .before .loop .inv .1) (c .before .before .before .before .before .if1 .taken) (sym (c .before .count .given .1) ∙ c .before .before .before .row-at .ensures))
+loop-again c = (
+  _,
+  frame-paints-blank (c .before .before .before .before .before .before .before .before .before .before .pre)
+      (c .before .before .before .before .before .before .before .loop .inv .1) (c .before .before .before .before .before .if1 .taken)
+      (row-head-told (c .before .count .given .1) (c .before .before .before .row-at .ensures)),
+)
 
 enum-known-end : tie.Need-enum-known-end Inv-loop μ-loop
 enum-known-end c = search needs
 
 add-paint-line : tie.Need-add-paint-line Inv-loop μ-loop
 add-paint-line c =
-    let k = is-data (c .before .before .before .before .before .before .before .before .before .before .args .s .now) _ _ _ (sym (c .before .end .given .1) ∙ c .before .before .before .row-at .ensures) in
+    let k = is-data (c .before .before .before .before .before .before .before .before .before .before .args .s .now) _ _ _
+    (row-head-told (c .before .end .given .1) (c .before .before .before .row-at .ensures)) in
     omega (arith, k .head, k .within)
 
 add-paint-line-2 : tie.Need-add-paint-line-2 Inv-loop μ-loop
@@ -73,9 +90,16 @@ add-paint-line-2 c =
 paint-line-requires : tie.Need-paint-line-requires Inv-loop μ-loop
 paint-line-requires c κs =
     let q = c .before .before .before .before .before .before .before .before .before .before .before .pre in
-    let k = is-data (c .before .before .before .before .before .before .before .before .before .before .before .args .s .now) _ _ _ (sym (c .before .before .end .given .1) ∙ c .before .before .before .before .row-at .ensures) in
+    let k = is-data (c .before .before .before .before .before .before .before .before .before .before .before .args .s .now) _ _ _
+    (row-head-told (c .before .before .end .given .1) (c .before .before .before .before .row-at .ensures)) in
     let h = k .head in
-    record { order = omega arith; within = k .within; narrow = q .narrow; near = q .near; exact = frame-length q (c .before .before .before .before .before .before .before .before .loop .inv .1) }
+    record {
+      order = omega arith;
+      within = k .within;
+      narrow = q .narrow;
+      near = q .near;
+      exact = frame-length q (c .before .before .before .before .before .before .before .before .loop .inv .1);
+    }
 
 add-done-2 : tie.Need-add-done-2 Inv-loop μ-loop
 add-done-2 c =
@@ -84,14 +108,26 @@ add-done-2 c =
 
 loop-less-2 : tie.Need-loop-less-2 Inv-loop μ-loop
 loop-less-2 c =
-    let k = is-data (c .before .before .before .before .before .before .before .before .before .before .before .before .before .before .args .s .now) _ _ _ (sym (c .before .before .before .before .before .end .given .1) ∙ c .before .before .before .before .before .before .before .row-at .ensures) in
+    let k = is-data
+    (c .before .before .before .before .before .before .before .before .before .before .before .before .before .before .args .s .now) _ _ _
+    (row-head-told (c .before .before .before .before .before .end .given .1)
+    (c .before .before .before .before .before .before .before .row-at .ensures)) in
     omega (arith, k .head, k .within)
 
 loop-again-2 : tie.Need-loop-again-2 Inv-loop μ-loop
-loop-again-2 c = (_, frame-paints-on (c .before .before .before .before .before .before .before .before .before .before .before .before .before .before .pre) (c .before .before .before .before .before .before .before .before .before .before .before .loop .inv .1) (c .before .before .before .before .before .before .before .before .before .if1 .taken) (sym (c .before .before .before .before .before .end .given .1) ∙ c .before .before .before .before .before .before .before .row-at .ensures) (c .before .before .paint-line .ensures))
+loop-again-2 c = (
+  _,
+  frame-paints-on (c .before .before .before .before .before .before .before .before .before .before .before .before .before .before .pre)
+      (c .before .before .before .before .before .before .before .before .before .before .before .loop .inv .1)
+      (c .before .before .before .before .before .before .before .before .before .if1 .taken)
+      (row-head-told (c .before .before .before .before .before .end .given .1)
+      (c .before .before .before .before .before .before .before .row-at .ensures)) (c .before .before .paint-line .ensures),
+)
 
 same-length-2 : tie.Need-same-length-2 Inv-loop μ-loop
-same-length-2 c = frame-length (c .before .before .before .before .before .pre) (c .before .before .loop .inv .1) ∙ sym (c .before .before .before .before .before .pre .exact)
+same-length-2 c =
+    frame-length (c .before .before .before .before .before .pre) (c .before .before .loop .inv .1)
+    ∙ sym (c .before .before .before .before .before .pre .exact)
 
 returns-2 : tie.Need-returns-2 Inv-loop μ-loop
 returns-2 c = frame-painted (c .before .before .before .before .before .pre) (c .before .before .loop .inv .1) (c .if1 .left)
