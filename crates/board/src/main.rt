@@ -18,7 +18,7 @@ fn print(line: Line)
     io::write_all(STDOUT_FILENO, &text[start..]);
 }
 
-// A line for each chunk, and the end line: `lines-step` (spec/proofs/Listing) is this loop.
+// A line for each chunk, and the end line: `lines-step` (trust/specs/Lines) is this loop.
 fn print_chunks(lent: Record, feed: &[u8], first: usize, picture: &mut [u8], map: &mut [u16]) {
     let mut at = first;
     let mut chunk = 1;

@@ -1,7 +1,7 @@
 -- The loop over the chunks of a feed: what may stand at a place, that its fuel never runs out, and what one step of a walk leaves to do.
 -- Assumes nothing.
 use Prim.Native.Nat.{ℕ, suc, _+_, _-_, _<_, _≤_}
-use mathlib.Core.Path.{_≡_, refl, sym, subst, subst⁻¹}
+use mathlib.Core.Path.{_≡_, refl, sym, subst⁻¹}
 use mathlib.Core.List.{List, [], _∷_}
 use mathlib.Core.Bool.{Bool, true, false, true≢false}
 use native.Mathlib.Omega.{arith}
@@ -48,10 +48,6 @@ stands-chunk s at (Value v after) g =
 pub stands : (s : List ℕ) (at : ℕ) → Stands s at (nextAt s at)
 unfolding nextAt
 stands s at = by-test (Stands s at) (ltb at (length s)) (λ t. stands-chunk s at (varintAt s at) (read-varint s at)) (λ t. whole)
-
--- of a chunk that code was given
-pub chunk-lies : (s : List ℕ) (at : ℕ) {first past : ℕ} → nextAt s at ≡ chunk first past → Lies s at first past
-chunk-lies s at e = subst (Stands s at) e (stands s at)
 
 same-onward : (f g : ℕ → Chunks) (s : List ℕ) (at : ℕ) (x : Next) → ((p : ℕ) → at < p → f p ≡ g p) → Stands s at x
     → andOnward f s at x ≡ andOnward g s at x

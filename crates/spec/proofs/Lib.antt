@@ -27,6 +27,5 @@ pub mod Feeds
 pub mod Runs
 pub mod Records
 pub mod Boards
-pub mod Listing
 pub mod Cutting
 pub mod Reached

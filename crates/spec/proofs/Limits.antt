@@ -1,6 +1,6 @@
 -- What an allowed size is good for, and the checks that come first. Assumes nothing.
 use Prim.Native.Nat.{ℕ, _*_, _/_, _%_, _<_, _≤_}
-use mathlib.Core.Path.{_≡_, refl, sym, ap, _∙_}
+use mathlib.Core.Path.{_≡_, refl, sym}
 use mathlib.Core.Logic.{_≢_}
 use mathlib.Core.Bool.{Bool, true, false, _&&_, and-eq-true-iff, true≢false}
 use native.Mathlib.Nat.{mul-le-mul, mul-pos}
@@ -137,10 +137,3 @@ fault-somehow z e = true≢false (sym (no-fault-both z false e .1))
 
 pub size-itself : (z : Size) → sameSize z z ≡ true
 size-itself z = rw (eq-eqb (z .width) (z .width) refl, eq-eqb (z .height) (z .height) refl)
-
--- where a feed's own size was looked at, and compared with the board's
-pub no-fault-sizes : (y z : Size) (t : Bool) → fault y (sameSize y z && t) ≡ ok → (allowed z ≡ true) × (y ≡ z)
-no-fault-sizes y z t e =
-    let f = no-fault-both y (sameSize y z && t) e in
-    let same = same-size y z (and-eq-true-iff (sameSize y z) t .0 (f .1) .0) in
-    (ap allowed (sym same) ∙ f .0, same)

@@ -314,14 +314,17 @@ further =
     ∷ sized (0x51 ∷ 0x01 ∷ 0x00 ∷ []) (answerAt 1 0 0) 0 0 0
     ∷ sized (0x80 ∷ 0x00 ∷ 0x01 ∷ []) (answerAt 12 0 0) 0 0 0
     ∷ sized (0x02 ∷ 0x80 ∷ []) (answerAt 13 1 0) 0 0 0
-    -- steps: an accepted chunk and a refused one; one that is cut; at the end, and past it; 1 and 2 come first
-    ∷ steps 8 4 (of 32 0) listingFeed 2 (answerAt 0 6 2) true 9
-    ∷ steps 8 4 (of 32 0) listingFeed 9 (answerAt 5 4 0) true 14
-    ∷ steps 8 4 (of 32 0) listingFeed 20 (answerAt 13 21 0) false 20
-    ∷ steps 8 4 (of 32 0) listingFeed 21 (answerAt 0 21 2) false 21
-    ∷ steps 8 4 (of 32 0) listingFeed 30 (answerAt 0 21 2) false 30
-    ∷ steps 6 4 (of 24 0) listingFeed 2 (answerAt 1 0 0) false 2
-    ∷ steps 8 4 (of 31 0) listingFeed 30 (answerAt 2 0 0) false 30
+    -- steps: accepted chunks, of which the second settles, and a refused one; a feed of another size than the record's; a chunk that is cut; at the end,
+    -- and past it; 1 and 2 come first
+    ∷ steps 8 4 (of 32 0) listingFeed 2 (answerAt 0 6 2) true 9 2 (of 32 0)
+    ∷ steps 8 4 (of 32 0) listingFeed 14 (answerAt 0 6 2) true 21 0 (of 32 5)
+    ∷ steps 8 4 (of 32 0) listingFeed 9 (answerAt 5 4 0) true 14 2 (of 32 0)
+    ∷ steps 4 4 (of 16 0) listingFeed 14 (answerAt 9 4 0) true 21 1 (of 16 0)
+    ∷ steps 8 4 (of 32 0) listingFeed 20 (answerAt 13 21 0) false 20 2 (of 32 0)
+    ∷ steps 8 4 (of 32 0) listingFeed 21 (answerAt 0 21 2) false 21 2 (of 32 0)
+    ∷ steps 8 4 (of 32 0) listingFeed 30 (answerAt 0 21 2) false 30 2 (of 32 0)
+    ∷ steps 6 4 (of 24 0) listingFeed 2 (answerAt 1 0 0) false 2 1 (of 24 0)
+    ∷ steps 8 4 (of 31 0) listingFeed 30 (answerAt 2 0 0) false 30 2 (of 31 0)
     -- the board program: no bytes; an empty chunk; a feed that ends where a chunk would start; a copy that unsettles, and numbers of two digits
     ∷ prints [] "end 13 0\n"
     ∷ prints (0x02 ∷ 0x01 ∷ 0x00 ∷ []) "board 8 4\n1 3 0 2 0\nend 0 3\n"

@@ -1,4 +1,4 @@
--- 01, "The house feed": numbers, the chunks of a feed, the walk, and that of a run of chunks. Assumes nothing.
+-- 01, "The house feed": numbers, a feed's size and its chunks, the walk, that of a run of chunks, and one step of both. Assumes nothing.
 use Prim.Native.Nat.{ℕ, zero, suc, _+_, _-_, _*_}
 use mathlib.Core.List.{List, [], _∷_, map}
 use mathlib.Core.Bool.{true, false, _&&_}
@@ -189,7 +189,8 @@ walkRun z s b = walkChunks z (chunksOf s) b
 abbrev pub tally : Size → Left Reply → Tally
 tally z l = record { answer = l .said .answer; accepted = l .said .accepted; kept = recordOf z (l .board .kept) }
 
--- One step of it, from a place on. Where no chunk is read, the answer is the walk's own, and record and place are as they were lent
+-- One step of a walk, of a feed or of a run, from a place on. Where no chunk is read, the answer is the walk's own, and record and place are as they
+-- were lent
 abbrev pub noChunk : Record → ℕ → Answer → Step
 noChunk r at a = record { answer = a; kept = r; chunk = false; next = at }
 

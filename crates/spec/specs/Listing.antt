@@ -100,6 +100,6 @@ unfoldable pub listing : List ℕ → List ℕ
 listing s = listingBy s (decide s)
 
 -- The line of one step of the walk: of the chunk that it has read, with the record's count, or the end line. Where the record is true to its map
--- these are the lines of the listing, one by one (`lines-step` of proofs/Listing)
+-- these are the lines of the listing, one by one (trust/specs/Lines)
 unfoldable pub stepLine : ℕ → Step → List ℕ
 stepLine i st = if (st .chunk) (chunkLine i (st .answer) (st .kept .unsettled)) (endLine (st .answer))

@@ -62,8 +62,9 @@ pub data Row : Type 0 where
   places : List ℕ → ℕ → List ℕ → Row
   -- a feed: what it says of its size: the answer, width and height, and the place of the first chunk's number
   sized : List ℕ → Answer → ℕ → ℕ → ℕ → Row
-  -- size, a picture with a fresh map and its record, a feed and a place: the answer of a step, whether a chunk stood there, and the next place
-  steps : ℕ → ℕ → List ℕ → List ℕ → ℕ → Answer → Bool → ℕ → Row
+  -- size, a picture with a fresh map and its record, a feed and a place: the answer of a step, whether a chunk stood there, the next place, the
+  -- record's count, and the picture
+  steps : ℕ → ℕ → List ℕ → List ℕ → ℕ → Answer → Bool → ℕ → ℕ → List ℕ → Row
   -- a feed: what the board program prints
   prints : List ℕ → String → Row
 
@@ -150,10 +151,11 @@ holds (places s at ps) = same (placesOf (chunksFrom (length s) s at .list)) ps
 holds (sized s a w h first) =
     let f = feedSize s in
     sameAnswer (f .answer) a && sameSize (f .size) (size w h) && eqb (f .first) first
-holds (steps w h pic s at a stood next) =
+holds (steps w h pic s at a stood next kept after) =
     let n = blocks (size w h) in
-    let st = walkStep (size w h) s at (board pic (fresh n) n) .said in
-    sameAnswer (st .answer) a && Bool·beq (st .chunk) stood && eqb (st .next) next
+    let l = walkStep (size w h) s at (board pic (fresh n) n) in
+    sameAnswer (l .said .answer) a && Bool·beq (l .said .chunk) stood && eqb (l .said .next) next
+    && sameSize (l .said .kept .size) (size w h) && eqb (l .said .kept .unsettled) kept && same (l .board .picture) after
 holds (prints s text) = same (listing s) (ascii text)
 
 abbrev pub hold : List Row → Bool

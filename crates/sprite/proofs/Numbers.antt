@@ -27,7 +27,7 @@ use Rattle.sprite.specs.Symbols.{placed, overlay, Painted, painted, Symb
 use Rattle.sprite.specs.Examples as Examples
 
 -- of a frame, and of a symbol, where 1 and 2 come first
-abbrev pub frameNumbers : List ℕ
+abbrev frameNumbers : List ℕ
 frameNumbers = ok ∷ badSprite ∷ noSuchFrame ∷ badFrame ∷ badRow ∷ badSegment ∷ noEndMarker ∷ []
 
 abbrev pub symbolNumbers : List ℕ
@@ -94,7 +94,7 @@ module _ (s : List ℕ) where
       gather-number Given _ _ _
       (λ st. head-number width (st .at) (rowAt s (height - length (st .made)) (st .at))) marker-number _ (reading at [])
 
-pub frame-number : (s : List ℕ) (k : ℕ) → Among (frame s k .number) frameNumbers
+frame-number : (s : List ℕ) (k : ℕ) → Among (frame s k .number) frameNumbers
 unfolding frame
 frame-number s k =
     by-test (λ (r : Ended (List Shade)). Given (r .number)) (eqb (Files.frameFault s k) ok) (λ t. rows-number s _ _ _) (λ t. fault-number s k)

@@ -43,7 +43,7 @@ abbrev pub paintFrame : Size → ℤ → ℤ → Ended (List Shade) → List ℕ
 paintFrame z left top e pic =
     painted (answer (e .number) 0) (if (eqb (e .number) ok) (overlay z (placed left top (e .made)) pic) pic)
 
--- what painting a symbol is lent
+-- What painting a symbol is lent (for trust/specs/Numbers)
 pub record SymbolLent : Type 0 where
   pub size : Size
   pub picture : List ℕ

@@ -6,6 +6,7 @@ pub mod Waiting
 pub mod Meanings
 pub mod Demand3
 pub mod Runs
+pub mod Lines
 pub mod Kept
 pub mod Turns
 pub mod RoundTrip

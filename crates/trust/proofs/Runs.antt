@@ -11,6 +11,7 @@ use lib.ListN.{length, drop}
 use borrow.Author.Tests.{ne-eqb}
 use Rattle.spec.specs.declared.Answer.{Answer}
 use Rattle.spec.specs.declared.Size.{Size}
+use Rattle.spec.specs.declared.FeedSize.{FeedSize}
 use Rattle.spec.specs.declared.Step.{Step}
 use Rattle.spec.specs.Basics.{if, Every, none, also}
 use Rattle.spec.specs.Answers.{ok, answer}
@@ -18,8 +19,9 @@ use Rattle.spec.specs.Sizes.{allowed, blocks, sameSize, fault}
 use Rattle.spec.specs.Maps.{recordOf}
 use Rattle.spec.specs.Boards.{Board, Left, left, Exact, exact, read, inTurn}
 use Rattle.spec.specs.Feeds.{Ending, ended, Next, chunk, end, nextAt, between, SizeNumbers, failing, both, sizeNumbers, withChunks, feedOf, Chunks, chunksFrom}
+use Rattle.spec.specs.Feeds.{feedSizeBy, feedSize}
 use Rattle.spec.specs.Feeds.{numberAccepted, Reply, reply, readAll, walkBehind, walkChunks, walkFeed, walk, chunksOf, walkRun, noChunk, stepBy, walkStep}
-use Rattle.spec.proofs.Lists.{by-number, checked-along, checked-none, checked-refused}
+use Rattle.spec.proofs.Lists.{by-test, by-number, checked-along, checked-none, checked-refused}
 use Rattle.spec.proofs.Limits.{by-fault, no-fault-both, exact-known, fault-somehow, size-itself}
 use Rattle.spec.proofs.Varints.{badly, short, cut-refused, numbered}
 use Rattle.spec.proofs.Feeds.{Ends, whole, cut, ends-chunks, stepped}
@@ -174,9 +176,26 @@ module _ (z : Size) (s : List ℕ) (at : ℕ) (b : Board) where
       exact-step (end e) = x
       exact-step (chunk p q) = exact-read z fine (between s p q) b x
 
-pub step-by-step : StepByStep
-step-by-step z s at b = by (fault z (exact z b)) refl
+every-step : (z : Size) (s : List ℕ) (at : ℕ) (b : Board) → Steps z s at b
+every-step z s at b = by (fault z (exact z b)) refl
   where
     by : (f : ℕ) → fault z (exact z b) ≡ f → Steps z s at b
     by zero e = let known = no-fault-both z (exact z b) e in steps-right z s at b (known .0) (exact-known z b (known .1))
     by (suc f) e = steps-wrong z s at b (λ h. omega (arith, e, h))
+
+-- a feed at its own size
+feed-from : (s : List ℕ) (b : Board) (x : SizeNumbers) → sizeNumbers s ≡ x
+    → let f = feedSizeBy x in
+    f .answer .number ≡ ok → walk (f .size) s b ≡ walkFrom (f .size) s (f .first) b
+unfolding walk feedOf
+feed-from s b (failing a) e h = absurd (cut-refused (numbered s e .0) h)
+feed-from s b (both z p) e h =
+    by-test (λ (f : FeedSize). f .answer .number ≡ ok → walkFeed (f .size) (feedOf s) b ≡ walkFrom (f .size) s (f .first) b) (allowed z)
+    (λ t g.
+    ap (λ x. walkFeed z (withChunks s x) b) e
+    ∙ ap (λ t. walkBehind (fault z (t && exact z b)) z (chunksFrom (length s) s p) b) (size-itself z))
+    (λ t g. absurd (omega (arith, g))) h
+
+pub step-by-step : StepByStep
+unfolding walkRun feedSize
+step-by-step = record { steps = every-step; run = λ z s b. refl; feed = λ s b h. feed-from s b (sizeNumbers s) refl h }

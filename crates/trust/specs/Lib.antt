@@ -6,5 +6,6 @@ pub mod Means
 pub mod Demand
 pub mod Kept
 pub mod Runs
+pub mod Lines
 pub mod RoundTrip
 pub mod Claims

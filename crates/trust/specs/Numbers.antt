@@ -29,7 +29,7 @@ pub record ReadLent : Type 0 where
   pub board : Board
   pub at : ℕ
 
--- e is the number of one of the answers that the call gives for something that is lent
+-- e is the number of one of the answers that the call gives for something that is lent; what proofs/Witnesses lends are bytes and small numbers
 pub record Given {A : Type 0} (answers : A → List Answer) (e : ℕ) : Type 0 where
   pub lent : A
   pub gives : Among e (map (λ a. a .number) (answers lent))

@@ -14,7 +14,7 @@ use Rattle.spec.specs.Answers.{ok, badSize, badLength, answerAt, answer}
 use Rattle.spec.specs.Sizes.{blocks, sameSize, fault}
 use Rattle.spec.specs.Boards.{Board, Left, left, exact, read, inTurn}
 use Rattle.spec.specs.Feeds.{ended, chunk, nextAt, between, chunksFrom, both, sizeNumbers, numberAccepted, Reply, reply, walkChunks, walk}
-use Rattle.spec.specs.Feeds.{chunksOf, walkRun, oneChunk, walkStep}
+use Rattle.spec.specs.Feeds.{feedSize, chunksOf, walkRun, oneChunk, walkStep}
 
 -- the chunks of a run handed over one by one: what each reading answers, and the board at the end
 abbrev pub singly : Size → List ℕ → Board → Left (List Answer)
@@ -83,5 +83,11 @@ pub record Steps (z : Size) (s : List ℕ) (at : ℕ) (b : Board) : Type 0 where
       walkFrom z s at b ≡ first (l .said .answer) (walkFrom z s (l .said .next) (l .board))
   pub ends : walkStep z s at b .said .chunk ≡ false → walkFrom z s at b ≡ left (reply [] (walkStep z s at b .said .answer)) b
 
-abbrev pub StepByStep : Type 0
-StepByStep = (z : Size) (s : List ℕ) (at : ℕ) (b : Board) → Steps z s at b
+-- and so are the whole walks: a run from its first byte on, a feed from the place that its size numbers give (`feedSize`)
+pub record StepByStep : Type 0 where
+  pub steps : (z : Size) (s : List ℕ) (at : ℕ) (b : Board) → Steps z s at b
+  pub run : (z : Size) (s : List ℕ) (b : Board) → walkRun z s b ≡ walkFrom z s 0 b
+  pub feed :
+      (s : List ℕ) (b : Board) → feedSize s .answer .number ≡ ok
+      → let f = feedSize s in
+      walk (f .size) s b ≡ walkFrom (f .size) s (f .first) b

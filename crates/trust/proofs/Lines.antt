@@ -1,29 +1,21 @@
 -- The listing, step by step: what a step of the walk prints, and then the lines from where it has left off. Assumes nothing.
 use Prim.Native.Nat.{ℕ, _+_}
 use mathlib.Core.Path.{_≡_, sym, ap, subst⁻¹, _∙_}
-use mathlib.Core.List.{List, [], _++_, append-assoc, append-nil}
+use mathlib.Core.List.{List, _++_, append-assoc, append-nil}
 use mathlib.Core.Bool.{true}
 use native.Mathlib.Nat.{le-refl}
 use lib.ListN.{length}
 use Rattle.spec.specs.declared.Size.{Size}
 use Rattle.spec.specs.declared.Step.{Step}
 use Rattle.spec.specs.Basics.{if}
 use Rattle.spec.specs.Sizes.{allowed, blocks}
 use Rattle.spec.specs.Boards.{Board, Left, Faithful, read}
 use Rattle.spec.specs.Feeds.{ended, Next, chunk, end, between, nextAt, Chunks, andOnward, chunksFrom, stepBy, walkStep}
 use Rattle.spec.specs.Listing.{chunkLine, endLine, chunkLines, linesFrom, stepLine}
 use Rattle.spec.proofs.Lists.{checked-none}
 use Rattle.spec.proofs.Feeds.{unroll-chunks}
 use Rattle.spec.proofs.Boards.{no-fault, faithful-read}
-
--- the lines after a step that has left a board
-abbrev pub linesAfter : Size → List ℕ → ℕ → Step → Board → List ℕ
-linesAfter z s i step after = if (step .chunk) (linesFrom z s (i + 1) (step .next) after) []
-
--- what one step prints of the lines from a place on, over a board whose record is true; and that it is true again, for the next step
-pub record Listed (z : Size) (s : List ℕ) (i : ℕ) (text : List ℕ) (step : Step) (after : Board) : Type 0 where
-  pub lines : text ≡ stepLine i step ++ linesAfter z s i step after
-  pub faithful : Faithful z after
+use Rattle.trust.specs.Lines.{Listed, LinesByStep}
 
 module _ (z : Size) (fine : allowed z ≡ true) (s : List ℕ) (i at : ℕ) (b : Board) (f : Faithful z b) where
   endText : Chunks → List ℕ
@@ -43,10 +35,13 @@ module _ (z : Size) (fine : allowed z ≡ true) (s : List ℕ) (i at : ℕ) (b :
         faithful = true-after;
       }
 
-  pub lines-step : Listed z s i (linesFrom z s i at b) (walkStep z s at b .said) (walkStep z s at b .board)
+  lines-here : Listed z s i (linesFrom z s i at b) (walkStep z s at b .said) (walkStep z s at b .board)
   unfolding walkStep endText
-  lines-step =
+  lines-here =
       let e = ap endText (unroll-chunks s (length s) (le-refl (length s)) at) in
       let by = lines-by (nextAt s at) in
       subst⁻¹ (λ (l : Left Step). Listed z s i (linesFrom z s i at b) (l .said) (l .board)) (checked-none _ _ _ (no-fault z fine b (f .exact)))
       (record { lines = e ∙ by .lines; faithful = by .faithful })
+
+pub lines-step : LinesByStep
+lines-step z fine s i at b f = lines-here z fine s i at b f
