@@ -17,7 +17,7 @@ use Rattle.spec.specs.Basics.{if}
 use Rattle.spec.specs.Maps.{recordOf}
 use Rattle.spec.specs.Boards.{Board, Left, left, inTurn}
 use Rattle.spec.specs.Feeds as Feeds
-use Rattle.spec.specs.Feeds.{varintAt, Ending, Next, chunk, end, chunkAt, nextAt, Chunks, andOnward, chunksFrom, Reply, reply, readAll, stepBy}
+use Rattle.spec.specs.Feeds.{varintAt, Ending, Next, chunk, end, chunkAt, nextAt, Chunks, andOnward, chunksFrom, Reply, reply, readAll, saidFirst, stepBy}
 use Rattle.spec.proofs.Fuel.{by-fuel, fuel-end, fuel-enough, fuel-turn}
 use Rattle.spec.proofs.Lists.{by-test}
 use Rattle.spec.proofs.Varints.{Cut, short, Read, read-varint}
@@ -100,10 +100,6 @@ unfolding chunksFrom
 ends-chunks fuel s at =
     by-fuel _ _ _ (λ (at : ℕ). Unit {0}) (λ (cs : Chunks). Ends s (cs .ending))
     (λ onward at t u h. ends-onward onward s at (nextAt s at) (λ p. h p tt) (stands s at)) (λ at u. whole) fuel at tt
-
--- a walk whose first chunk says a
-abbrev pub saidFirst : Answer → Left Reply → Left Reply
-saidFirst a l = left (reply (a ∷ l .said .inside) (l .said .answer)) (l .board)
 
 -- What one step behind 1 and 2, over the board b, leaves to do of the chunks `cs`: those after it over the board that it left; or nothing
 pub record Onward (z : Size) (s : List ℕ) (fuel at : ℕ) (cs : Chunks) (b : Board) (st : Step) (after : Board) : Type 0 where

@@ -163,6 +163,10 @@ readAll z cs b =
     let ran = inTurn (read z) (map (λ c. c .bytes) (cs .list)) b in
     left (reply (ran .said) (ended (blocks z) (cs .ending))) (ran .board)
 
+-- a walk with one chunk more in front, which answered a
+abbrev pub saidFirst : Answer → Left Reply → Left Reply
+saidFirst a l = left (reply (a ∷ l .said .inside) (l .said .answer)) (l .board)
+
 -- behind 1 and 2: "Size is checked after both numbers are read, then the lent buffers (2, which also ends the walk)"
 abbrev pub walkBehind : ℕ → Size → Chunks → Board → Left Reply
 walkBehind e z cs b = checked e (λ a. left (reply [] a) b) (readAll z cs b)

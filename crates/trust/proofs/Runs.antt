@@ -19,7 +19,7 @@ use Rattle.spec.specs.Sizes.{allowed, blocks, sameSize, fault}
 use Rattle.spec.specs.Maps.{recordOf}
 use Rattle.spec.specs.Boards.{Board, Left, left, Exact, exact, read, inTurn}
 use Rattle.spec.specs.Feeds.{Ending, ended, Next, chunk, end, nextAt, between, SizeNumbers, failing, both, sizeNumbers, withChunks, feedOf, Chunks, chunksFrom}
-use Rattle.spec.specs.Feeds.{feedSizeBy, feedSize}
+use Rattle.spec.specs.Feeds.{feedSizeBy, feedSize, saidFirst}
 use Rattle.spec.specs.Feeds.{numberAccepted, Reply, reply, readAll, walkBehind, walkChunks, walkFeed, walk, chunksOf, walkRun, noChunk, stepBy, walkStep}
 use Rattle.spec.proofs.Lists.{by-test, by-number, checked-along, checked-none, checked-refused}
 use Rattle.spec.proofs.Limits.{by-fault, no-fault-both, exact-known, fault-somehow, size-itself}
@@ -27,7 +27,7 @@ use Rattle.spec.proofs.Varints.{badly, short, cut-refused, numbered}
 use Rattle.spec.proofs.Feeds.{Ends, whole, cut, ends-chunks, stepped}
 use Rattle.spec.proofs.Boards.{no-fault}
 use Rattle.spec.proofs.Runs.{later, laterChunks, chunks-behind}
-use Rattle.trust.specs.Runs.{Singly, HandedSingly, behind, afterNumbers, SizeThenRun, OtherSize, UsedUp, walkFrom, first, Steps, StepByStep}
+use Rattle.trust.specs.Runs.{Singly, HandedSingly, behind, afterNumbers, SizeThenRun, OtherSize, UsedUp, walkFrom, Steps, StepByStep}
 use Rattle.trust.proofs.Numbers.{exact-read}
 
 -- where size or lengths are not right, each reading is refused with the same answer, and the board stays
@@ -162,8 +162,8 @@ module _ (z : Size) (s : List ℕ) (at : ℕ) (b : Board) where
             let t′ = ap (λ l. l .said .chunk) (sym is) ∙ t in
             walks at b x
             ∙ told .onward t′ .walked
-            ∙ ap (first (behindFault .said .answer)) (sym (walks (behindFault .said .next) (behindFault .board) (exact-step (nextAt s at))))
-            ∙ ap (λ l. first (l .said .answer) (walkFrom z s (l .said .next) (l .board))) (sym is);
+            ∙ ap (saidFirst (behindFault .said .answer)) (sym (walks (behindFault .said .next) (behindFault .board) (exact-step (nextAt s at))))
+            ∙ ap (λ l. saidFirst (l .said .answer) (walkFrom z s (l .said .next) (l .board))) (sym is);
         ends = λ t.
             let over = told .over (ap (λ l. l .said .chunk) (sym is) ∙ t) in
             walks at b x

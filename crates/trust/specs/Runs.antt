@@ -3,7 +3,7 @@
 use Prim.Native.Nat.{ℕ, _+_}
 use mathlib.Core.Path.{_≡_}
 use mathlib.Core.Logic.{_≢_}
-use mathlib.Core.List.{List, [], _∷_, map}
+use mathlib.Core.List.{List, [], map}
 use mathlib.Core.Bool.{true, false}
 use lib.Dec.{eqb}
 use lib.ListN.{length, drop}
@@ -14,7 +14,7 @@ use Rattle.spec.specs.Answers.{ok, badSize, badLength, answerAt, answer}
 use Rattle.spec.specs.Sizes.{blocks, sameSize, fault}
 use Rattle.spec.specs.Boards.{Board, Left, left, exact, read, inTurn}
 use Rattle.spec.specs.Feeds.{ended, chunk, nextAt, between, chunksFrom, both, sizeNumbers, numberAccepted, Reply, reply, walkChunks, walk}
-use Rattle.spec.specs.Feeds.{feedSize, chunksOf, walkRun, oneChunk, walkStep}
+use Rattle.spec.specs.Feeds.{feedSize, saidFirst, chunksOf, walkRun, oneChunk, walkStep}
 
 -- the chunks of a run handed over one by one: what each reading answers, and the board at the end
 abbrev pub singly : Size → List ℕ → Board → Left (List Answer)
@@ -66,10 +66,6 @@ UsedUp = (z : Size) (s : List ℕ) (b : Board) → AllUsed z s b
 abbrev pub walkFrom : Size → List ℕ → ℕ → Board → Left Reply
 walkFrom z s at b = walkChunks z (chunksFrom (length s) s at) b
 
--- a walk whose first chunk answers a
-abbrev pub first : Answer → Left Reply → Left Reply
-first a l = left (reply (a ∷ l .said .inside) (l .said .answer)) (l .board)
-
 pub record Steps (z : Size) (s : List ℕ) (at : ℕ) (b : Board) : Type 0 where
   -- where size and lengths are right, a step is a reading of the chunk that stands there
   pub reads :
@@ -80,7 +76,7 @@ pub record Steps (z : Size) (s : List ℕ) (at : ℕ) (b : Board) : Type 0 where
   pub onward :
       walkStep z s at b .said .chunk ≡ true
       → let l = walkStep z s at b in
-      walkFrom z s at b ≡ first (l .said .answer) (walkFrom z s (l .said .next) (l .board))
+      walkFrom z s at b ≡ saidFirst (l .said .answer) (walkFrom z s (l .said .next) (l .board))
   pub ends : walkStep z s at b .said .chunk ≡ false → walkFrom z s at b ≡ left (reply [] (walkStep z s at b .said .answer)) b
 
 -- and so are the whole walks: a run from its first byte on, a feed from the place that its size numbers give (`feedSize`)

@@ -1,6 +1,6 @@
 use Prim.Native.Nat.{_+_, _-_, _≤_}
-use mathlib.Core.Path.{_≡_, refl, _∙_}
-use mathlib.Core.Bool.{Bool, true, false, not, true≢false}
+use mathlib.Core.Path.{_≡_, refl, sym, ap, _∙_}
+use mathlib.Core.Bool.{Bool, true, false, not, Bool·not-not}
 use native.Mathlib.Omega.{arith}
 use lib.ListN.{length}
 use Rattle.feed.proofs.Walking.{step-further}
@@ -42,9 +42,9 @@ same-length-2 c = c .before .before .before .before .before .map .given ∙ at-l
 returns : tie.Need-returns Inv-loop μ-loop
 returns c = tt
 
+-- `if !step.chunk` was not taken
 held : (b : Bool) → not b ≡ false → b ≡ true
-held true e = refl
-held false e = absurd (true≢false e)
+held b e = sym (Bool·not-not b) ∙ ap not e
 
 add-chunk : tie.Need-add-chunk Inv-loop μ-loop
 add-chunk c =
