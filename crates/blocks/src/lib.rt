@@ -3,13 +3,15 @@
 //
 // What reader and writer share. These functions ask for a block that is there: this crate is internal, and nothing of it is exported
 // (docs/DECISIONS.md).
+#![tactic(auto)]
+
 ghost use Rattle.std.specs.Prelude.{◌≡◌, [], ◌∷◌, ◌+◌, ◌*◌, ◌≤◌, ◌<◌, length};
 ghost use Rattle.spec.specs.Sizes.{max_columns, max_blocks, max_width};
 ghost use Rattle.spec.specs.Pictures.{place, block_at};
 ghost use Rattle.blocks.specs.Blocks.{row_of, pixels, row, rows, Canvas};
 
 // Four rows of four pixels each, the first pixel of a row lowest.
-#[derive(Drop)]
+#[derive(Clone, Copy)]
 pub struct Rows {
     pub a: u32,
     pub b: u32,

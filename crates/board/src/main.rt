@@ -1,5 +1,7 @@
 // The board program: reads a feed on standard input, from an all-zero picture and a fresh map, and prints its listing. What it decides and
 // each line that it prints are proved in `feed` and `listing`; here they are only put one after the other.
+#![tactic(auto)]
+
 ghost use Rattle.std.specs.Prelude.{◌≤◌, length};
 ghost use Rattle.spec.specs.Sizes.{pixels, blocks};
 

@@ -1,4 +1,6 @@
 // The fresh map with its record, and the unsettled count.
+#![tactic(auto)]
+
 ghost use Rattle.std.specs.Prelude.{◌≡◌, ◌<◌, length, eqb};
 ghost use Rattle.spec.specs.Basics.{if};
 ghost use Rattle.spec.specs.Maps.{settled, fresh, unsettled, fresh_map, count_map};

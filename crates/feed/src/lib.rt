@@ -1,5 +1,7 @@
 // The house feed: its numbers, one step of a walk, the walk, that of a run of chunks, and what a program that shows a board decides.
 // Anyone may call these with any bytes, of any lengths.
+#![tactic(auto)]
+
 mod numbers;
 mod walk;
 

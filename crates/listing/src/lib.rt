@@ -1,4 +1,6 @@
 // The lines that the board program prints, as text, and one step of a listing.
+#![tactic(auto)]
+
 mod text;
 
 ghost use Rattle.std.specs.Prelude.{◌≤◌, ◌≡◌, length, drop};
@@ -10,7 +12,7 @@ use spec::{Answer, Record, Size, Step};
 use text::{put_byte, put_decimal, put_spaced, put_word};
 
 // A line is `text[start..]`: it is made from its end.
-#[derive(Drop)]
+#[derive(Clone, Copy)]
 pub struct Line {
     pub text: [u8; Line::ROOM],
     pub start: usize,
@@ -85,7 +87,7 @@ fn step_line(chunk: usize, step: Step) -> Line
 }
 
 // One step of a listing: its line, and the step of the walk.
-#[derive(Drop)]
+#[derive(Clone, Copy)]
 pub struct Listed {
     pub line: Line,
     pub step: Step,

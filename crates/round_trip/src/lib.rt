@@ -1,5 +1,7 @@
 // The round trip over the functions that run: what `write_chunk` writes, `read_chunk` reads back. No program calls this function: its
 // contract states the round trip, and its proof rests on the contracts of the two.
+#![tactic(auto)]
+
 ghost use Rattle.std.specs.Prelude.{◌≡◌};
 ghost use Rattle.round_trip.specs.Trip.{lent_board, round_trip};
 

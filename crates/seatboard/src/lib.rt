@@ -1,6 +1,8 @@
 // What other programs call, from C or Rust: the functions of the library under one prefix, and no more. Each promises what the function
 // behind it promises, for all inputs. The prefix has the number of the interface, so that a program built for another does not link: it is
 // raised when a function or a struct of it changes, and stays when functions are added.
+#![tactic(auto)]
+
 ghost use Rattle.std.specs.Prelude.{◌≡◌};
 ghost use Rattle.spec.specs.Boards.{board, read};
 ghost use Rattle.spec.specs.Feeds.{feed_size, walk, walk_run, tally, walk_step};

@@ -1,4 +1,6 @@
 // Which sizes are allowed, and the two refusals that every call looks for first. Anyone may call these with any numbers.
+#![tactic(auto)]
+
 ghost use Rattle.std.specs.Prelude.{◌≡◌, ◌&&◌, eqb};
 ghost use Rattle.spec.specs.Answers.{ok, bad_length};
 ghost use Rattle.spec.specs.Basics.{if};

@@ -1,6 +1,8 @@
 // Reading a chunk over a lent picture and map, with their record. Two passes: the first (`smc_check`) decides the answer, knows what becomes of
 // the count, and writes nothing; the second paints what the first has accepted. The modules' own functions ask for what the one before them has
 // made sure of; `read_chunk` asks for nothing.
+#![tactic(auto)]
+
 mod flags;
 mod paint;
 mod put;

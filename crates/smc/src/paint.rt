@@ -12,14 +12,14 @@ use crate::tables::{OctetTable, PairTable, QuadTable};
 use crate::{flags, runs, tables};
 
 // Where the next opcode stands, and how many blocks are then made.
-#[derive(Drop)]
+#[derive(Clone, Copy)]
 struct Moved {
     at: usize,
     k: usize,
 }
 
 // The same, with the number of a table's next entry.
-#[derive(Drop)]
+#[derive(Clone, Copy)]
 struct Stored {
     at: usize,
     k: usize,
@@ -27,7 +27,7 @@ struct Stored {
 }
 
 // The same, with those of all three tables.
-#[derive(Drop)]
+#[derive(Clone, Copy)]
 struct Next {
     at: usize,
     k: usize,

@@ -96,7 +96,7 @@ fn store(t: &mut [u8], w: usize, next: u8, s: &[u8], q: usize) -> u8
 
 // What an opcode with a table paints by: where in the table its colours stand, where in the chunk its flags, and the number of the table's
 // next entry then.
-#[derive(Drop)]
+#[derive(Clone, Copy)]
 pub struct Entry {
     pub at: usize,
     pub rest: usize,

@@ -55,7 +55,7 @@ fn once_of(upper: usize) -> usize
 }
 
 // An opcode's head: a refusal's number; or its upper half-byte, how many blocks it makes, and the place of the next opcode.
-#[derive(Drop)]
+#[derive(Clone, Copy)]
 pub enum Head {
     Bad(u8),
     Runs(usize, usize, usize),

@@ -16,7 +16,7 @@ use spec::{Answer, SETTLED};
 
 // Where the counting stands. now: the number of blocks, less the entries found unsettled, and more the blocks that copies leave so; those
 // from lo to hi are still to be counted. one and two: of the block before, and of the one before that, 0 settled, 1 skipped, 2 unsettled.
-#[derive(Drop)]
+#[derive(Clone, Copy)]
 pub struct Running {
     pub now: usize,
     pub one: usize,
@@ -26,7 +26,7 @@ pub struct Running {
 }
 
 // The answer to a chunk, and the number of blocks with the count's change added, where it is accepted.
-#[derive(Drop)]
+#[derive(Clone, Copy)]
 pub struct Changed {
     pub answer: Answer,
     pub now: usize,

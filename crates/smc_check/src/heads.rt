@@ -4,7 +4,7 @@ ghost use Rattle.spec.specs.Basics.{if};
 ghost use Rattle.spec.specs.Chunks.{counted, body_at};
 ghost use Rattle.smc_check.specs.Heads.{Leads};
 
-#[derive(Drop)]
+#[derive(Clone, Copy)]
 pub struct Lead {
     pub upper: usize,
     pub count: usize,

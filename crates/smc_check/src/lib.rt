@@ -1,6 +1,8 @@
 // The first pass of reading a chunk: it decides the answer and, beside a map, what the chunk makes of the count of unsettled blocks. It writes
 // nothing. The modules' own functions ask for what the one before them has made sure of; `check_chunk` asks for nothing. The paint pass reads an
 // opcode's lead as this one does.
+#![tactic(auto)]
+
 mod check;
 mod count;
 mod heads;

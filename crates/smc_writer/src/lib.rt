@@ -1,6 +1,8 @@
 // Writing the chunk that makes a new picture out of an old one. The old picture is looked at once, to flag the blocks that are kept
 // (`kept`); everything else goes by these flags and the new picture, so that a writer which flags blocks otherwise shares it. The modules'
 // own functions ask for what the one before them has made sure of; `write_chunk` asks for nothing.
+#![tactic(auto)]
+
 mod colours;
 mod flags;
 mod kept;

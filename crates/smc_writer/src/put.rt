@@ -16,7 +16,7 @@ const HEAD: usize = 4;
 const BLOCK_MOST: usize = 17;
 
 // A run that has been written.
-#[derive(Drop)]
+#[derive(Clone, Copy)]
 pub struct Run {
     pub blocks: usize,
     pub bytes: usize,

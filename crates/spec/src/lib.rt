@@ -1,8 +1,10 @@
 // The types that every function of the project answers with and is lent. What they mean is defined in specs/.
+#![tactic(auto)]
+
 
 // What a call answers: a number of paper 01's table, a place, and the block at which it stopped.
 #[repr(C)]
-#[derive(Drop)]
+#[derive(Clone, Copy)]
 pub struct Answer {
     pub number: u8,
     pub place: usize,
@@ -59,7 +61,7 @@ impl Answer {
 
 // A picture's width and height in pixels.
 #[repr(C)]
-#[derive(Drop)]
+#[derive(Clone, Copy)]
 pub struct Size {
     pub width: usize,
     pub height: usize,
@@ -83,7 +85,7 @@ impl Size {
 // A board's record, kept beside its picture and map: the size, and how many of the map's entries are unsettled. It is lent and handed back by
 // value; a caller may lend one that is untrue to its map.
 #[repr(C)]
-#[derive(Drop)]
+#[derive(Clone, Copy)]
 pub struct Record {
     pub size: Size,
     pub unsettled: usize,
@@ -91,7 +93,7 @@ pub struct Record {
 
 // What a fresh start, reading a chunk and walking a feed answer: the answer, and the record as it is then.
 #[repr(C)]
-#[derive(Drop)]
+#[derive(Clone, Copy)]
 pub struct Recorded {
     pub answer: Answer,
     pub kept: Record,
@@ -105,7 +107,7 @@ pub const MAX_RUN: usize = 256;
 
 // What counting a map's unsettled entries answers.
 #[repr(C)]
-#[derive(Drop)]
+#[derive(Clone, Copy)]
 pub struct Count {
     pub answer: Answer,
     pub unsettled: usize,
@@ -113,7 +115,7 @@ pub struct Count {
 
 // What a walk of a run of chunks answers: the walk's own answer, how many of the chunks were accepted, and the record as it is then.
 #[repr(C)]
-#[derive(Drop)]
+#[derive(Clone, Copy)]
 pub struct Tally {
     pub answer: Answer,
     pub accepted: usize,
@@ -121,7 +123,7 @@ pub struct Tally {
 }
 
 // A house number, a varint, as it is read at a place.
-#[derive(Drop)]
+#[derive(Clone, Copy)]
 pub enum Varint {
     // 12 or 13
     Bad(u8),
@@ -136,7 +138,7 @@ impl Varint {
 
 // What a feed says of its size, so that a board can be made for it: the answer, the size, and the place of the first chunk's length number.
 #[repr(C)]
-#[derive(Drop)]
+#[derive(Clone, Copy)]
 pub struct FeedSize {
     pub answer: Answer,
     pub size: Size,
@@ -146,7 +148,7 @@ pub struct FeedSize {
 // One step of a walk. Where a chunk stood at the place, the answer is the chunk's, and `next` the place to go on from; else it is the walk's own,
 // and record and place are as they were lent.
 #[repr(C)]
-#[derive(Drop)]
+#[derive(Clone, Copy)]
 pub struct Step {
     pub answer: Answer,
     pub kept: Record,
@@ -155,7 +157,7 @@ pub struct Step {
 }
 
 // What a program that shows a board does with a feed.
-#[derive(Drop)]
+#[derive(Clone, Copy)]
 pub enum Decision {
     TooLarge,
     // nothing is shown but how it ends

@@ -63,7 +63,7 @@ pub fn frame_fault(s: &[u8], frame: usize) -> u8
 }
 
 // A frame's height and width, and the place of its first row.
-#[derive(Drop)]
+#[derive(Clone, Copy)]
 pub struct Frame {
     pub height: usize,
     pub width: usize,

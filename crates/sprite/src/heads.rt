@@ -5,14 +5,14 @@ ghost use Rattle.sprite.specs.Frames.{segment_bytes, segment_at, segment_says, r
 use crate::bytes;
 
 // A segment: refused; or how many pixels it has, and the place after it.
-#[derive(Drop)]
+#[derive(Clone, Copy)]
 pub enum Segment {
     Bad,
     Pixels(usize, usize),
 }
 
 // A row's head: refused; so many rows of background; or a row with data up to a place.
-#[derive(Drop)]
+#[derive(Clone, Copy)]
 pub enum RowHead {
     Bad,
     Blank(usize),

@@ -1,5 +1,7 @@
 // Painting a frame of a sprite file on a shown picture. Two passes: the first checks the whole frame and writes nothing, the second paints
 // what the first has accepted. The modules' own functions ask for what the one before them has made sure of; `paint_symbol` asks for nothing.
+#![tactic(auto)]
+
 mod bytes;
 mod check;
 mod files;

@@ -63,7 +63,7 @@ fn copy(picture: &mut [u8], start: usize, n: usize, s: &[u8], at: usize)
 
 // Of pixels that follow one another, those that lie on the picture: how many come before them, the picture's column of the first, and how
 // many they are.
-#[derive(Drop)]
+#[derive(Clone, Copy)]
 struct Visible {
     hidden: usize,
     column: usize,

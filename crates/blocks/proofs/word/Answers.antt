@@ -1,0 +1,8 @@
+use mathlib.Core.Path.{refl}
+use native.Mathlib.Omega.{arith}
+use borrow.Author.Rules.{rules}
+use Rattle.blocks.proofs.Rowwise.{row_of-word}
+use Rattle.blocks.proofs.word.Goals as goal
+
+pub returns : goal.returns
+returns c = row_of-word _ _ _ _ _ (omega arith) (omega arith) (omega arith) (omega arith) refl

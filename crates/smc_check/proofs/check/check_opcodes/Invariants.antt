@@ -1,0 +1,14 @@
+use Rattle.smc_check.proofs.Behind.{Behind, begins, few-told, told-runs, told-bad, goes-bad, goes_on_lem, ends-remain, ends-follow, ends-ok}
+use Rattle.smc_check.specs.Checking.{Spans, Times, Reaches}
+use lib.ListN.{length}
+use mathlib.Core.Path.{◌≡◌, refl, sym, ◌∙◌}
+use Prim.Native.Nat.{◌-◌}
+use borrow.Author.Rules.{rules}
+use native.Mathlib.Omega.{arith}
+use Rattle.smc_check.proofs.check.check_opcodes.Given as goal
+
+abbrev pub invariant-loop-k : goal.invariant-loop-k
+invariant-loop-k l = (l.len ≡ length l.s) × (Spans l.spans × Times l.times × Reaches l.reach) × Behind l.blocks l.s l.at l.k l.f
+
+abbrev pub decreases-loop-k : goal.decreases-loop-k
+decreases-loop-k l = length l.s - l.at

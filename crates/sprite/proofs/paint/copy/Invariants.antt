@@ -1,0 +1,15 @@
+use Prim.Native.Nat.{◌≤◌, ◌-◌}
+use mathlib.Core.Path.{◌≡◌, refl}
+use native.Mathlib.Omega.{arith}
+use lib.ListN.{length-set, length}
+use lib.Seq.{sets}
+use borrow.Author.Rules.{rules}
+use Rattle.spec.specs.Basics.{part}
+use Rattle.spec.proofs.Parts.{sets-step}
+use Rattle.sprite.proofs.paint.copy.Given as goal
+
+abbrev pub invariant-loop-i : goal.invariant-loop-i
+invariant-loop-i l = (l.i ≤ l.n) × (length l.picture ≡ length l.initial.picture) × (l.picture ≡ sets l.initial.picture l.start (part l.s l.at l.i))
+
+abbrev pub decreases-loop-i : goal.decreases-loop-i
+decreases-loop-i l = l.n - l.i

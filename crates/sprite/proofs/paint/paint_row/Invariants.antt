@@ -1,0 +1,16 @@
+use Prim.Native.Nat.{◌+◌, ◌-◌}
+use mathlib.Core.Path.{sym, ◌∙◌}
+use mathlib.Core.List.{List, []}
+use native.Mathlib.Omega.{arith}
+use borrow.Author.Rules.{rules}
+use Rattle.sprite.specs.Frames.{Shade}
+use Rattle.sprite.specs.Strips.{origin}
+use Rattle.sprite.proofs.Segments.{stands, segment-told}
+use Rattle.sprite.proofs.Rowwise.{RowPainted, row-unpainted, row-paints-on, row-painted-bad, row-painted, row-length}
+use Rattle.sprite.proofs.paint.paint_row.Given as goal
+
+abbrev pub invariant-loop-next : goal.invariant-loop-next
+invariant-loop-next l = (made : List Shade) × RowPainted l.size l.s l.width l.first l.end l.left (origin + l.y) l.initial.picture l.x l.next l.picture made
+
+abbrev pub decreases-loop-next : goal.decreases-loop-next
+decreases-loop-next l = l.end - l.next
