@@ -42,7 +42,7 @@ bounds-out-3 c = let l = length-behind _ c.args.out.now c.requires.in_bounds _ c
     rw (length-set, length-set, length-set) (omega (arith, four-fit _ c.args.out.now c.requires.in_bounds))
 
 pub returns-clause-value : goal.returns-clause-value
-returns-clause-value c = chunk-put _ c.args.out.now c.requires.in_bounds _ c.put_opcodes-length.ensures.out_after _ c.put_opcodes-length.ensures.value
+returns-clause-value c = (chunk-put _ c.args.out.now c.requires.in_bounds _ c.put_opcodes-length.ensures.out_after _ c.put_opcodes-length.ensures.value).0
 
 pub returns-clause-out_after : goal.returns-clause-out_after
-returns-clause-out_after c = chunk-put _ c.args.out.now c.requires.in_bounds _ c.put_opcodes-length.ensures.out_after _ c.put_opcodes-length.ensures.value
+returns-clause-out_after c = (chunk-put _ c.args.out.now c.requires.in_bounds _ c.put_opcodes-length.ensures.out_after _ c.put_opcodes-length.ensures.value).1

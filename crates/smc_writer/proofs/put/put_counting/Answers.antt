@@ -14,13 +14,13 @@ pub returns-then-m-le16-clause-value : goal.returns-then-m-le16-clause-value
 returns-then-m-le16-clause-value c = let a = c.args in
     let e = counting-short a.u a.m (omega arith) in
     let h : 0 < length a.out.now = (let l = ap length e in omega (arith, c.requires.m_in_bounds)) in
-    rw e (refl, onto-set [] a.out.now 0 (16 * a.u + (a.m - 1)) refl h)
+    rw e (refl)
 
 pub returns-then-m-le16-clause-out_after : goal.returns-then-m-le16-clause-out_after
 returns-then-m-le16-clause-out_after c = let a = c.args in
     let e = counting-short a.u a.m (omega arith) in
     let h : 0 < length a.out.now = (let l = ap length e in omega (arith, c.requires.m_in_bounds)) in
-    rw e (refl, onto-set [] a.out.now 0 (16 * a.u + (a.m - 1)) refl h)
+    rw e (onto-set [] a.out.now 0 (16 * a.u + (a.m - 1)) refl h)
 
 pub bounds-out-0-2 : goal.bounds-out-0-2
 bounds-out-0-2 c = let l = ap length (counting-long c.args.u c.args.m (omega arith)) in omega (arith, c.requires.m_in_bounds)
@@ -35,18 +35,11 @@ pub returns-clause-value : goal.returns-clause-value
 returns-clause-value c = let a = c.args in
     let e = counting-long a.u a.m (omega arith) in
     let h : 1 < length a.out.now = (let l = ap length e in omega (arith, c.requires.m_in_bounds)) in
-    rw e (
-      refl,
-      ap (λ (o : List ℕ). set o 1 (a.m - 1)) (onto-set [] a.out.now 0 (16 * (a.u + 1)) refl (omega arith))
-          ∙ onto-set (16 * (a.u + 1) ∷ []) a.out.now 1 (a.m - 1) refl h,
-    )
+    rw e (refl)
 
 pub returns-clause-out_after : goal.returns-clause-out_after
 returns-clause-out_after c = let a = c.args in
     let e = counting-long a.u a.m (omega arith) in
     let h : 1 < length a.out.now = (let l = ap length e in omega (arith, c.requires.m_in_bounds)) in
-    rw e (
-      refl,
-      ap (λ (o : List ℕ). set o 1 (a.m - 1)) (onto-set [] a.out.now 0 (16 * (a.u + 1)) refl (omega arith))
-          ∙ onto-set (16 * (a.u + 1) ∷ []) a.out.now 1 (a.m - 1) refl h,
-    )
+    rw e (ap (λ (o : List ℕ). set o 1 (a.m - 1)) (onto-set [] a.out.now 0 (16 * (a.u + 1)) refl (omega arith))
+          ∙ onto-set (16 * (a.u + 1) ∷ []) a.out.now 1 (a.m - 1) refl h)

@@ -36,7 +36,7 @@ pub loop-k-preserved : goal.loop-k-preserved
 loop-k-preserved c = laid_on c.loop-k.invariant (omega arith) c.put_run-run.ensures.blocks_value c.put_run-run.ensures.bytes_value c.put_run-run.ensures.out_after
 
 pub returns-clause-value : goal.returns-clause-value
-returns-clause-value c = laid-all c.loop-k.invariant (omega arith)
+returns-clause-value c = (laid-all c.loop-k.invariant (omega arith)).0
 
 pub returns-clause-out_after : goal.returns-clause-out_after
-returns-clause-out_after c = laid-all c.loop-k.invariant (omega arith)
+returns-clause-out_after c = (laid-all c.loop-k.invariant (omega arith)).1
