@@ -8,25 +8,25 @@ pub returns-then-number-ne-OK-clause-answer_value : goal.returns-then-number-ne-
 returns-then-number-ne-OK-clause-answer_value c = let a = c.args in
     let q = c.board_fault-number.ensures in
     let e = read-refused a.kept.size a.chunk.now a.picture.now a.map.now a.kept.unsettled _ q c.if-number-ne-OK.true in
-    rw (c.refused.ensures, e) (refl)
+    rw (c.refused.ensures, e) refl
 
 pub returns-then-number-ne-OK-clause-kept_value : goal.returns-then-number-ne-OK-clause-kept_value
 returns-then-number-ne-OK-clause-kept_value c = let a = c.args in
     let q = c.board_fault-number.ensures in
     let e = read-refused a.kept.size a.chunk.now a.picture.now a.map.now a.kept.unsettled _ q c.if-number-ne-OK.true in
-    rw (c.refused.ensures, e) (refl)
+    rw (c.refused.ensures, e) refl
 
 pub returns-then-number-ne-OK-clause-picture_after : goal.returns-then-number-ne-OK-clause-picture_after
 returns-then-number-ne-OK-clause-picture_after c = let a = c.args in
     let q = c.board_fault-number.ensures in
     let e = read-refused a.kept.size a.chunk.now a.picture.now a.map.now a.kept.unsettled _ q c.if-number-ne-OK.true in
-    rw (c.refused.ensures, e) (refl)
+    rw e refl
 
 pub returns-then-number-ne-OK-clause-map_after : goal.returns-then-number-ne-OK-clause-map_after
 returns-then-number-ne-OK-clause-map_after c = let a = c.args in
     let q = c.board_fault-number.ensures in
     let e = read-refused a.kept.size a.chunk.now a.picture.now a.map.now a.kept.unsettled _ q c.if-number-ne-OK.true in
-    rw (c.refused.ensures, e) (refl)
+    rw e refl
 
 pub overflow_mul-blocks : goal.overflow_mul-blocks
 overflow_mul-blocks c = let a = c.args in
@@ -36,42 +36,42 @@ overflow_mul-blocks c = let a = c.args in
     omega (arith, few)
 
 pub check-changed-requires : goal.check-changed-requires
-check-changed-requires c = let a = (start (else1 c).before).args in
+check-changed-requires c = let a = c.args in
     let q = c.board_fault-number.ensures in
     let h = c.if-number-ne-OK.false in
     let few = (allowed-size a.kept.size (size-allowed a.kept.size a.chunk.now a.picture.now a.map.now a.kept.unsettled _ q h)).few in
     (map-exact a.kept.size a.chunk.now a.picture.now a.map.now a.kept.unsettled _ q h, few)
 
 pub returns-then-answer-ne-OK-clause-answer_value : goal.returns-then-answer-ne-OK-clause-answer_value
-returns-then-answer-ne-OK-clause-answer_value c = let a = (start (else1₂ c).before).args in
+returns-then-answer-ne-OK-clause-answer_value c = let a = c.args in
     let q = c.board_fault-number.ensures in
     let h = c.if-number-ne-OK.false in
     let e = read_keeps a.kept.size a.chunk.now a.picture.now a.map.now a.kept.unsettled _ q h _ c.check-changed.ensures.answer_value c.if-answer-ne-OK.true in
-    rw e (refl)
+    rw e refl
 
 pub returns-then-answer-ne-OK-clause-kept_value : goal.returns-then-answer-ne-OK-clause-kept_value
-returns-then-answer-ne-OK-clause-kept_value c = let a = (start (else1₂ c).before).args in
+returns-then-answer-ne-OK-clause-kept_value c = let a = c.args in
     let q = c.board_fault-number.ensures in
     let h = c.if-number-ne-OK.false in
     let e = read_keeps a.kept.size a.chunk.now a.picture.now a.map.now a.kept.unsettled _ q h _ c.check-changed.ensures.answer_value c.if-answer-ne-OK.true in
-    rw e (refl)
+    rw e refl
 
 pub returns-then-answer-ne-OK-clause-picture_after : goal.returns-then-answer-ne-OK-clause-picture_after
-returns-then-answer-ne-OK-clause-picture_after c = let a = (start (else1₂ c).before).args in
+returns-then-answer-ne-OK-clause-picture_after c = let a = c.args in
     let q = c.board_fault-number.ensures in
     let h = c.if-number-ne-OK.false in
     let e = read_keeps a.kept.size a.chunk.now a.picture.now a.map.now a.kept.unsettled _ q h _ c.check-changed.ensures.answer_value c.if-answer-ne-OK.true in
-    rw e (refl)
+    rw e refl
 
 pub returns-then-answer-ne-OK-clause-map_after : goal.returns-then-answer-ne-OK-clause-map_after
-returns-then-answer-ne-OK-clause-map_after c = let a = (start (else1₂ c).before).args in
+returns-then-answer-ne-OK-clause-map_after c = let a = c.args in
     let q = c.board_fault-number.ensures in
     let h = c.if-number-ne-OK.false in
     let e = read_keeps a.kept.size a.chunk.now a.picture.now a.map.now a.kept.unsettled _ q h _ c.check-changed.ensures.answer_value c.if-answer-ne-OK.true in
-    rw e (refl)
+    rw e refl
 
 pub miscounts-requires : goal.miscounts-requires
-miscounts-requires c = let a = (start₂ c).args in
+miscounts-requires c = let a = c.args in
     let q = c.board_fault-number.ensures in
     let h = c.if-number-ne-OK.false in
     let few = (allowed-size a.kept.size (size-allowed a.kept.size a.chunk.now a.picture.now a.map.now a.kept.unsettled _ q h)).few in
@@ -80,57 +80,57 @@ miscounts-requires c = let a = (start₂ c).args in
     (few, small)
 
 pub returns-then-miscounts-clause-answer_value : goal.returns-then-miscounts-clause-answer_value
-returns-then-miscounts-clause-answer_value c = let a = (start₂ (else2 c)).args in
+returns-then-miscounts-clause-answer_value c = let a = c.args in
     let q = c.board_fault-number.ensures in
     let h = c.if-number-ne-OK.false in
     let g = is-accepted a.kept.size a.chunk.now a.picture.now a.map.now a.kept.unsettled _ q h _ c.check-changed.ensures.answer_value c.if-answer-ne-OK.false in
     let e = read-miscounts a.kept.size a.chunk.now a.picture.now a.map.now a.kept.unsettled _ q h g _ c.check-changed.ensures.balanced
     (sym c.miscounts.ensures ∙ c.if-miscounts.true) in
-    rw (c.refused-then-miscounts.ensures, e) (refl)
+    rw (c.refused-then-miscounts.ensures, e) refl
 
 pub returns-then-miscounts-clause-kept_value : goal.returns-then-miscounts-clause-kept_value
-returns-then-miscounts-clause-kept_value c = let a = (start₂ (else2 c)).args in
+returns-then-miscounts-clause-kept_value c = let a = c.args in
     let q = c.board_fault-number.ensures in
     let h = c.if-number-ne-OK.false in
     let g = is-accepted a.kept.size a.chunk.now a.picture.now a.map.now a.kept.unsettled _ q h _ c.check-changed.ensures.answer_value c.if-answer-ne-OK.false in
     let e = read-miscounts a.kept.size a.chunk.now a.picture.now a.map.now a.kept.unsettled _ q h g _ c.check-changed.ensures.balanced
     (sym c.miscounts.ensures ∙ c.if-miscounts.true) in
-    rw (c.refused-then-miscounts.ensures, e) (refl)
+    rw (c.refused-then-miscounts.ensures, e) refl
 
 pub returns-then-miscounts-clause-picture_after : goal.returns-then-miscounts-clause-picture_after
-returns-then-miscounts-clause-picture_after c = let a = (start₂ (else2 c)).args in
+returns-then-miscounts-clause-picture_after c = let a = c.args in
     let q = c.board_fault-number.ensures in
     let h = c.if-number-ne-OK.false in
     let g = is-accepted a.kept.size a.chunk.now a.picture.now a.map.now a.kept.unsettled _ q h _ c.check-changed.ensures.answer_value c.if-answer-ne-OK.false in
     let e = read-miscounts a.kept.size a.chunk.now a.picture.now a.map.now a.kept.unsettled _ q h g _ c.check-changed.ensures.balanced
     (sym c.miscounts.ensures ∙ c.if-miscounts.true) in
-    rw (c.refused-then-miscounts.ensures, e) (refl)
+    rw e refl
 
 pub returns-then-miscounts-clause-map_after : goal.returns-then-miscounts-clause-map_after
-returns-then-miscounts-clause-map_after c = let a = (start₂ (else2 c)).args in
+returns-then-miscounts-clause-map_after c = let a = c.args in
     let q = c.board_fault-number.ensures in
     let h = c.if-number-ne-OK.false in
     let g = is-accepted a.kept.size a.chunk.now a.picture.now a.map.now a.kept.unsettled _ q h _ c.check-changed.ensures.answer_value c.if-answer-ne-OK.false in
     let e = read-miscounts a.kept.size a.chunk.now a.picture.now a.map.now a.kept.unsettled _ q h g _ c.check-changed.ensures.balanced
     (sym c.miscounts.ensures ∙ c.if-miscounts.true) in
-    rw (c.refused-then-miscounts.ensures, e) (refl)
+    rw e refl
 
 pub paint-requires-clause-lent : goal.paint-requires-clause-lent
-paint-requires-clause-lent c = let a = (start₂ (else2₂ c)).args in
+paint-requires-clause-lent c = let a = c.args in
     let q = c.board_fault-number.ensures in
     let h = c.if-number-ne-OK.false in
     let g = is-accepted a.kept.size a.chunk.now a.picture.now a.map.now a.kept.unsettled _ q h _ c.check-changed.ensures.answer_value c.if-answer-ne-OK.false in
     lent a.kept.size a.chunk.now a.picture.now a.map.now a.kept.unsettled _ q h
 
 pub paint-requires-clause-accepts : goal.paint-requires-clause-accepts
-paint-requires-clause-accepts c = let a = (start₂ (else2₂ c)).args in
+paint-requires-clause-accepts c = let a = c.args in
     let q = c.board_fault-number.ensures in
     let h = c.if-number-ne-OK.false in
     let g = is-accepted a.kept.size a.chunk.now a.picture.now a.map.now a.kept.unsettled _ q h _ c.check-changed.ensures.answer_value c.if-answer-ne-OK.false in
     g
 
 pub overflow_add-result : goal.overflow_add-result
-overflow_add-result c = let a = (start₂ (else2₃ c)).args in
+overflow_add-result c = let a = c.args in
     let q = c.board_fault-number.ensures in
     let h = c.if-number-ne-OK.false in
     let few = (allowed-size a.kept.size (size-allowed a.kept.size a.chunk.now a.picture.now a.map.now a.kept.unsettled _ q h)).few in
@@ -139,7 +139,7 @@ overflow_add-result c = let a = (start₂ (else2₃ c)).args in
     omega (arith, r.1, few)
 
 pub returns-clause-answer_value : goal.returns-clause-answer_value
-returns-clause-answer_value c = let a = (start₂ (else2₃ c)).args in
+returns-clause-answer_value c = let a = c.args in
     let q = c.board_fault-number.ensures in
     let h = c.if-number-ne-OK.false in
     let g = is-accepted a.kept.size a.chunk.now a.picture.now a.map.now a.kept.unsettled _ q h _ c.check-changed.ensures.answer_value c.if-answer-ne-OK.false in
@@ -149,7 +149,7 @@ returns-clause-answer_value c = let a = (start₂ (else2₃ c)).args in
     rw e (rw g.is at c.check-changed.ensures.answer_value)
 
 pub returns-clause-kept_value : goal.returns-clause-kept_value
-returns-clause-kept_value c = let a = (start₂ (else2₃ c)).args in
+returns-clause-kept_value c = let a = c.args in
     let q = c.board_fault-number.ensures in
     let h = c.if-number-ne-OK.false in
     let g = is-accepted a.kept.size a.chunk.now a.picture.now a.map.now a.kept.unsettled _ q h _ c.check-changed.ensures.answer_value c.if-answer-ne-OK.false in
@@ -159,7 +159,7 @@ returns-clause-kept_value c = let a = (start₂ (else2₃ c)).args in
     rw e (ap (record_of a.kept.size) (sym n))
 
 pub returns-clause-picture_after : goal.returns-clause-picture_after
-returns-clause-picture_after c = let a = (start₂ (else2₃ c)).args in
+returns-clause-picture_after c = let a = c.args in
     let q = c.board_fault-number.ensures in
     let h = c.if-number-ne-OK.false in
     let g = is-accepted a.kept.size a.chunk.now a.picture.now a.map.now a.kept.unsettled _ q h _ c.check-changed.ensures.answer_value c.if-answer-ne-OK.false in
@@ -169,7 +169,7 @@ returns-clause-picture_after c = let a = (start₂ (else2₃ c)).args in
     rw e (rw g.is at c.paint.ensures.pic_after)
 
 pub returns-clause-map_after : goal.returns-clause-map_after
-returns-clause-map_after c = let a = (start₂ (else2₃ c)).args in
+returns-clause-map_after c = let a = c.args in
     let q = c.board_fault-number.ensures in
     let h = c.if-number-ne-OK.false in
     let g = is-accepted a.kept.size a.chunk.now a.picture.now a.map.now a.kept.unsettled _ q h _ c.check-changed.ensures.answer_value c.if-answer-ne-OK.false in

@@ -9,5 +9,6 @@ pub overflow_mul-b : goal.overflow_mul-b
 overflow_mul-b c = omega (arith, product_small c.args.c1 _ (omega arith) (factor-at c.args.f _ (c.requires.factors c.args.f c.requires.f_bound)))
 
 pub returns : goal.returns
-returns c = pair_row c.args.c0 c.args.c1 c.args.f (omega arith) (omega arith) c.requires.f_bound _ (c.requires.factors c.args.f c.requires.f_bound)
-    c.wrapping_sub_u32.result _ (omega arith) c.wrapping_sub_u32.ensures c.wrapping_add_u32.ensures
+returns c =
+    pair_row c.args.c0 c.args.c1 c.args.f (omega arith) (omega arith) c.requires.f_bound _ (c.requires.factors c.args.f c.requires.f_bound)
+    c.wrapping_sub_u32.result _ (omega arith) c.wrapping_sub_u32.ensures.value c.wrapping_add_u32.ensures.value

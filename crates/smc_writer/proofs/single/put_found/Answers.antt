@@ -20,58 +20,49 @@ repeat_greatest-requires-clause-le_n c = let few : c.args.n ≤ 8 = omega arith 
     some c.requires.finds few c.requires.px_len
 
 pub put_tabled-requires-clause-bits_in_bounds : goal.put_tabled-requires-clause-bits_in_bounds
-put_tabled-requires-clause-bits_in_bounds c = let start = c.before.before.before.before.before.before.before.before.before.before.before in
-    let f = start.requires.1.1.0 in
-    let few : start.args.n ≤ 8 = omega arith in
-    let t = by-table f few 1 c.repeat_greatest.new.0 start.args.out.now (omega arith) (omega arith) c.repeat_greatest.ensures (single-pair f few (omega arith)) start.requires.1.1.1 in
+put_tabled-requires-clause-bits_in_bounds c = let f = c.requires.finds in
+    let few : c.args.n ≤ 8 = omega arith in
+    let t = by-table f few 1 c.repeat_greatest.new.0 c.args.out.now (omega arith) (omega arith) c.repeat_greatest.ensures (single-pair f few (omega arith)) c.requires.px_in_bounds in
     t.room
 
 pub returns-then-n-le2-clause-value : goal.returns-then-n-le2-clause-value
-returns-then-n-le2-clause-value c = let start = c.before.before.before.before.before.before.before.before.before.before.before.before.before.before in
-    let f = start.requires.1.1.0 in
-    let few : start.args.n ≤ 8 = omega arith in
+returns-then-n-le2-clause-value c = let f = c.requires.finds in
+    let few : c.args.n ≤ 8 = omega arith in
     rw (single-pair f few (omega arith)) c.put_tabled.ensures
 
 pub returns-then-n-le2-clause-out_after : goal.returns-then-n-le2-clause-out_after
-returns-then-n-le2-clause-out_after c = let start = c.before.before.before.before.before.before.before.before.before.before.before.before.before.before in
-    let f = start.requires.1.1.0 in
-    let few : start.args.n ≤ 8 = omega arith in
+returns-then-n-le2-clause-out_after c = let f = c.requires.finds in
+    let few : c.args.n ≤ 8 = omega arith in
     rw (single-pair f few (omega arith)) c.put_tabled.ensures
 
 pub put_tabled-requires-then-n-le4-clause-bits_in_bounds : goal.put_tabled-requires-then-n-le4-clause-bits_in_bounds
-put_tabled-requires-then-n-le4-clause-bits_in_bounds c = let start = c.before.before.before.before.before.before.before.before.before.before.before.before in
-    let f = start.requires.1.1.0 in
-    let few : start.args.n ≤ 8 = omega arith in
-    let t = by-table f few 2 c.repeat_greatest.new.0 start.args.out.now (omega arith) (omega arith) c.repeat_greatest.ensures (single-quad f few (omega arith) (omega arith)) start.requires.1.1.1 in
+put_tabled-requires-then-n-le4-clause-bits_in_bounds c = let f = c.requires.finds in
+    let few : c.args.n ≤ 8 = omega arith in
+    let t = by-table f few 2 c.repeat_greatest.new.0 c.args.out.now (omega arith) (omega arith) c.repeat_greatest.ensures (single-quad f few (omega arith) (omega arith)) c.requires.px_in_bounds in
     t.room
 
 pub returns-then-n-le4-clause-value : goal.returns-then-n-le4-clause-value
-returns-then-n-le4-clause-value c = let start = c.before.before.before.before.before.before.before.before.before.before.before.before.before.before.before in
-    let f = start.requires.1.1.0 in
-    let few : start.args.n ≤ 8 = omega arith in
+returns-then-n-le4-clause-value c = let f = c.requires.finds in
+    let few : c.args.n ≤ 8 = omega arith in
     rw (single-quad f few (omega arith) (omega arith)) c.put_tabled-then-n-le4.ensures
 
 pub returns-then-n-le4-clause-out_after : goal.returns-then-n-le4-clause-out_after
-returns-then-n-le4-clause-out_after c = let start = c.before.before.before.before.before.before.before.before.before.before.before.before.before.before.before in
-    let f = start.requires.1.1.0 in
-    let few : start.args.n ≤ 8 = omega arith in
+returns-then-n-le4-clause-out_after c = let f = c.requires.finds in
+    let few : c.args.n ≤ 8 = omega arith in
     rw (single-quad f few (omega arith) (omega arith)) c.put_tabled-then-n-le4.ensures
 
 pub put_tabled-requires-2-clause-bits_in_bounds : goal.put_tabled-requires-2-clause-bits_in_bounds
-put_tabled-requires-2-clause-bits_in_bounds c = let start = c.before.before.before.before.before.before.before.before.before.before.before.before in
-    let f = start.requires.1.1.0 in
-    let few : start.args.n ≤ 8 = omega arith in
-    let t = by-table f few 3 c.repeat_greatest.new.0 start.args.out.now (omega arith) (omega arith) c.repeat_greatest.ensures (single-octet f few (omega arith)) start.requires.1.1.1 in
+put_tabled-requires-2-clause-bits_in_bounds c = let f = c.requires.finds in
+    let few : c.args.n ≤ 8 = omega arith in
+    let t = by-table f few 3 c.repeat_greatest.new.0 c.args.out.now (omega arith) (omega arith) c.repeat_greatest.ensures (single-octet f few (omega arith)) c.requires.px_in_bounds in
     t.room
 
 pub returns-clause-value : goal.returns-clause-value
-returns-clause-value c = let start = c.before.before.before.before.before.before.before.before.before.before.before.before.before.before.before in
-    let f = start.requires.1.1.0 in
-    let few : start.args.n ≤ 8 = omega arith in
+returns-clause-value c = let f = c.requires.finds in
+    let few : c.args.n ≤ 8 = omega arith in
     rw (single-octet f few (omega arith)) c.put_tabled-2.ensures
 
 pub returns-clause-out_after : goal.returns-clause-out_after
-returns-clause-out_after c = let start = c.before.before.before.before.before.before.before.before.before.before.before.before.before.before.before in
-    let f = start.requires.1.1.0 in
-    let few : start.args.n ≤ 8 = omega arith in
+returns-clause-out_after c = let f = c.requires.finds in
+    let few : c.args.n ≤ 8 = omega arith in
     rw (single-octet f few (omega arith)) c.put_tabled-2.ensures
