@@ -69,19 +69,15 @@ put_single-bytes-requires-clause-px_in_bounds c = let a = c.args in
     rw (e, ← q) at c.requires.k_in_bounds
 
 pub returns-clause-blocks_value : goal.returns-clause-blocks_value
-returns-clause-blocks_value c = let changed = c.if-kept-k-ne0.false in
-    let e = c.block_at-rows.ensures in
-    let mixed = sym c.is_plain.ensures ∙ c.if-is_plain.false in
-    ((run-single _ _ _ _ _ changed _ e mixed, rw (bytes-single _ _ _ _ _ changed _ e mixed, ← c.pixels_of-px.ensures) c.put_single-bytes.ensures)).0
+returns-clause-blocks_value c =
+    run-single _ _ _ _ _ c.if-kept-k-ne0.false _ c.block_at-rows.ensures (sym c.is_plain.ensures ∙ c.if-is_plain.false)
 
 pub returns-clause-bytes_value : goal.returns-clause-bytes_value
-returns-clause-bytes_value c = let changed = c.if-kept-k-ne0.false in
-    let e = c.block_at-rows.ensures in
+returns-clause-bytes_value c =
     let mixed = sym c.is_plain.ensures ∙ c.if-is_plain.false in
-    ((run-single _ _ _ _ _ changed _ e mixed, rw (bytes-single _ _ _ _ _ changed _ e mixed, ← c.pixels_of-px.ensures) c.put_single-bytes.ensures)).1.0
+    rw (bytes-single _ _ _ _ _ c.if-kept-k-ne0.false _ c.block_at-rows.ensures mixed, ← c.pixels_of-px.ensures) c.put_single-bytes.ensures.value
 
 pub returns-clause-out_after : goal.returns-clause-out_after
-returns-clause-out_after c = let changed = c.if-kept-k-ne0.false in
-    let e = c.block_at-rows.ensures in
+returns-clause-out_after c =
     let mixed = sym c.is_plain.ensures ∙ c.if-is_plain.false in
-    ((run-single _ _ _ _ _ changed _ e mixed, rw (bytes-single _ _ _ _ _ changed _ e mixed, ← c.pixels_of-px.ensures) c.put_single-bytes.ensures)).1.1
+    rw (bytes-single _ _ _ _ _ c.if-kept-k-ne0.false _ c.block_at-rows.ensures mixed, ← c.pixels_of-px.ensures) c.put_single-bytes.ensures.out_after
