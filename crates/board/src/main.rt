@@ -2,32 +2,40 @@
 // each line that it prints are proved in `feed` and `listing`; here they are only put one after the other.
 #![tactic(auto)]
 
-ghost use Rattle.std.specs.Prelude.{◌≤◌, length};
+ghost use Rattle.std.specs.Prelude.{◌≤◌, length, IfOk};
 ghost use Rattle.spec.specs.Sizes.{pixels, blocks};
 
-use libc::{STDIN_FILENO, STDOUT_FILENO};
 use listing::Line;
 use spec::{Decision, Record, Size};
+use std::io;
+use std::io::{Read, Write};
 
-fn print(line: Line)
+fn print<W: Write>(out: &mut W, line: Line) -> io::Result<()>
     requires { line.start ≤ length line.text }
 {
     let text = line.text;
     let start = line.start;
-    io::write_all(STDOUT_FILENO, &text[start..]);
+    out.write_all(&text[start..])
 }
 
 // A line for each chunk, and the end line: `lines_step` (trust/specs/Lines) is this loop.
-fn print_chunks(lent: Record, feed: &[u8], first: usize, picture: &mut [u8], map: &mut [u16]) {
+fn print_chunks<W: Write>(
+    out: &mut W,
+    lent: Record,
+    feed: &[u8],
+    first: usize,
+    picture: &mut [u8],
+    map: &mut [u16],
+) -> io::Result<()> {
     let mut at = first;
     let mut chunk = 1;
     let mut kept = lent;
     loop {
         let listed = listing::list_step(kept, feed, at, chunk, picture, map);
-        print(listed.line);
+        print(out, listed.line)?;
         let step = listed.step;
         if !step.chunk {
-            return;
+            return Ok(());
         }
         kept = step.kept;
         at = step.next;
@@ -36,7 +44,14 @@ fn print_chunks(lent: Record, feed: &[u8], first: usize, picture: &mut [u8], map
 }
 
 // A board in the room that is lent for it: an all-zero picture, and a map that is made fresh, with its record.
-fn print_board(size: Size, feed: &[u8], first: usize, zeros: &mut [u8], room: &mut [u16])
+fn print_board<W: Write>(
+    out: &mut W,
+    size: Size,
+    feed: &[u8],
+    first: usize,
+    zeros: &mut [u8],
+    room: &mut [u16],
+) -> io::Result<()>
     requires size_in_bounds { pixels size ≤ length zeros.old }
     requires size_in_bounds_2 { blocks size ≤ length room.old }
 {
@@ -45,25 +60,41 @@ fn print_board(size: Size, feed: &[u8], first: usize, zeros: &mut [u8], room: &m
     let picture = &mut zeros[..pixels];
     let map = &mut room[..blocks];
     let fresh = board_map::fresh_map(size, map);
-    print(listing::board_line(size));
-    print_chunks(fresh.kept, feed, first, picture, map);
+    print(out, listing::board_line(size))?;
+    print_chunks(out, fresh.kept, feed, first, picture, map)
 }
 
-fn print_listing(feed: &[u8]) {
+fn print_listing<W: Write>(out: &mut W, feed: &[u8]) -> io::Result<()> {
     match feed::decide(feed) {
-        Decision::TooLarge => print(listing::too_large_line()),
-        Decision::EndLine(answer) => print(listing::end_line(answer)),
+        Decision::TooLarge => print(out, listing::too_large_line()),
+        Decision::EndLine(answer) => print(out, listing::end_line(answer)),
         Decision::Board(size, first) => {
             let mut zeros = [0u8; Decision::MAX_SHOWN_PIXELS];
             let mut room = [0u16; Decision::MAX_SHOWN_PIXELS / 16];
-            print_board(size, feed, first, &mut zeros, &mut room);
+            print_board(out, size, feed, first, &mut zeros, &mut room)
         }
     }
 }
 
-fn main() {
+// Reads until the space is full or the input ends, and tells how many bytes there are.
+fn read_feed<R: Read>(input: &mut R, space: &mut [u8]) -> io::Result<usize>
+    ensures { IfOk result (λ n. n ≤ length space.new) }
+{
+    let mut n = 0;
+    while n < space.len() {
+        let more = input.read(&mut space[n..])?;
+        if more == 0 {
+            break;
+        }
+        n += more;
+    }
+    Ok(n)
+}
+
+// A failed read or write ends the program with that error.
+fn main(rt: HostRuntime) -> io::Result<()> {
     // a byte more than a feed may have, so that a longer one is seen to be longer
     let mut space = [0u8; Decision::MAX_FEED + 1];
-    let n = io::read_full(STDIN_FILENO, &mut space);
-    print_listing(&space[..n]);
+    let n = read_feed(&mut rt.stdin(), &mut space)?;
+    print_listing(&mut rt.stdout(), &space[..n])
 }

@@ -18,7 +18,7 @@
 //! second reader, with the record handed on from call to call, and two_boards.rs on two boards.
 //!
 //! From the repository's root, with the library in target/lib or in $SEATBOARD_LIB and the board
-//! program as target/bin/board or $SEATBOARD_BOARD:
+//! program as crates/board/out/board or $SEATBOARD_BOARD:
 //!
 //! ```text
 //! cargo run --quiet --release --locked --offline --package compare -- [--seed N] [--chunks N]

@@ -1,4 +1,4 @@
-//! The board program, run on feeds: the binary in SEATBOARD_BOARD, or else `target/bin/board`
+//! The board program, run on feeds: the binary in SEATBOARD_BOARD, or else `crates/board/out/board`
 //! below the current folder. What it prints is compared byte for byte.
 
 use std::io::{self, Write};
@@ -32,7 +32,7 @@ pub fn run(feed: &[u8], handed: Handed) -> Result<String, String> {
 }
 
 fn path() -> PathBuf {
-    std::env::var_os("SEATBOARD_BOARD").map_or("target/bin/board".into(), PathBuf::from)
+    std::env::var_os("SEATBOARD_BOARD").map_or("crates/board/out/board".into(), PathBuf::from)
 }
 
 fn output_of(path: &Path, feed: &[u8], handed: Handed) -> io::Result<Output> {
