@@ -12,7 +12,7 @@ use Rattle.spec.specs.Basics.{if, Every, none, also}
 use Rattle.spec.specs.Writing.{colours, entries, entry_of}
 use Rattle.spec.proofs.Lists.{by-test, every-weaken, every_append, every-replicate}
 use Rattle.spec.proofs.Colours.{Has, here, there, has-colours}
-use Rattle.smc_writer.specs.Colours.{Rising, next}
+use Rattle.smc_writer.specs.Colours.{Rising, nil, next}
 use Rattle.smc_writer.specs.Flags.{less, under}
 use Rattle.smc_writer.proofs.Rising.{rising-colours}
 
@@ -46,11 +46,13 @@ under_none p none = refl
 under_none p (also {x} h e) = rw (less-not x p h, under_none p e)
 
 has_above : {x p : ℕ} {l : List ℕ} → Every (λ (y : ℕ). x < y) l → Has p l → x < p
+has_above {p = p} none x4 = elim x4 [ ]
 has_above (also h e) (here q) = omega arith
 has_above (also h e) (there g) = has_above e g
 
 under-entry : {p : ℕ} {cs : List ℕ} (more : List ℕ) → Every (λ (y : ℕ). p ≤ y) more → Rising cs → Has p cs → under (cs ++ more) p ≡ entry_of (cs ++ more) p
 unfolding under entry_of if
+under-entry {p = p} more m nil x5 = elim x5 [ ]
 under-entry {p} more m (next {x} {xs} e r) (here q) =
     rw (less-not x p (omega arith), eq-eqb x p q, under_none p (every_append (every-weaken (λ (y : ℕ) h. omega arith) e) m))
 under-entry {p} more m (next {x} e r) (there h) =
@@ -64,7 +66,9 @@ last-past x y l =
     ap (λ (i : ℕ). get_or (x ∷ y ∷ l) i 0) e
 
 last-most : {p : ℕ} {cs : List ℕ} → Rising cs → Has p cs → p ≤ get_or cs (length cs - 1) 0
+last-most {p = p} nil x3 = elim x3 [ ]
 last-most (next none r) (here q) = omega arith
+last-most {p = p} (next {x = x} none r) (there g) = elim g [ ]
 last-most (next {x} (also {x = y} {xs} h e) r) (here q) = rw (last-past x y xs) (le_trans (omega arith) (last-most r (here {x = y} refl)))
 last-most (next {x} (also {x = y} {xs} h e) r) (there g) = rw (last-past x y xs) (last-most r g)
 

@@ -13,7 +13,7 @@ returns-then-s-at c = let a = c.args in
 pub lead_at-lead-requires-clause-at_in_bounds_2 : goal.lead_at-lead-requires-clause-at_in_bounds_2
 lead_at-lead-requires-clause-at_in_bounds_2 c = let a = c.args in
     let e = body-by-bytes a.s.now a.at _ c.wide.ensures.0 _ c.count_bytes.ensures in
-omega arith
+    omega arith
 
 pub returns-then-k-reach_of : goal.returns-then-k-reach_of
 returns-then-k-reach_of c = let a = c.args in
@@ -58,7 +58,8 @@ returns-then-s-lead c = let a = c.args in
 pub missing-requires-clause-upper_in_bounds : goal.missing-requires-clause-upper_in_bounds
 missing-requires-clause-upper_in_bounds c = let a = c.args in
     let e = body-by-bytes a.s.now a.at _ c.wide.ensures.0 _ c.count_bytes.ensures in
-    let o = c.once_of.ensures in omega (arith, c.lead_at-lead.ensures.body)
+    let o = c.once_of.ensures in
+    omega (arith, c.lead_at-lead.ensures.body)
 
 pub returns-then-missing : goal.returns-then-missing
 returns-then-missing c = let a = c.args in

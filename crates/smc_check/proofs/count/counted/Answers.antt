@@ -10,7 +10,7 @@ taken-requires-clause-owing c = let a = c.args in
     let g = c.requires.tallied in
     let room = c.requires.m_in_bounds.0 in
     let some = c.requires.m_in_bounds.1 in
-rw c.touch_of-touch.ensures (owing-noted m a.upper a.k a.m a.t _ room some g c.noted-u.ensures)
+    rw c.touch_of-touch.ensures (owing-noted m a.upper a.k a.m a.t _ room some g c.noted-u.ensures)
 
 pub returns : goal.returns
 returns c = let a = c.args in

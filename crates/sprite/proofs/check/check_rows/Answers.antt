@@ -36,7 +36,7 @@ pub check_row-number-requires-clause-at_le_end : goal.check_row-number-requires-
 check_row-number-requires-clause-at_le_end c = let a = c.args in
     let k = is-data a.s.now _ _ _ (row-head-told c.in-Data.is c.row_at.ensures) in
     let h = k.head in
-omega arith
+    omega arith
 
 pub returns-then-number-ne-OK : goal.returns-then-number-ne-OK
 returns-then-number-ne-OK c = let n = c.check_row-number.ensures in

@@ -7,9 +7,9 @@ use Rattle.sprite.proofs.Laying.{strip-off}
 use Rattle.sprite.proofs.paint.paint_line.Goals as goal
 
 pub returns-then-line-lt-ORIGIN : goal.returns-then-line-lt-ORIGIN
-returns-then-line-lt-ORIGIN c = EXC TypeError("'NoneType' object is not subscriptable") let a = c.before.before.before.args in
-    strip-off a.size a.left a.line _ a.picture.now c.before.before.before.requires.exact (λ y h e. omega (arith, e, c.if1.true))
+returns-then-line-lt-ORIGIN c = let a = c.args in
+    strip-off a.size a.left a.line _ a.picture.now c.requires.exact (λ y h e. omega (arith, e, c.if-line-lt-ORIGIN.true))
 
 pub returns-then-size-y : goal.returns-then-size-y
-returns-then-size-y c = EXC TypeError("'NoneType' object is not subscriptable") let a = c.before.before.before.before.before.args in
-    strip-off a.size a.left a.line _ a.picture.now c.before.before.before.before.before.requires.exact (λ y h e. omega (arith, e, c.if2.true))
+returns-then-size-y c = let a = c.args in
+    strip-off a.size a.left a.line _ a.picture.now c.requires.exact (λ y h e. omega (arith, e, c.if-size-y.true))

@@ -10,19 +10,19 @@ use Rattle.sprite.proofs.Rowwise.{FramePainted, frame-unpainted, frame-painted, 
 use Rattle.sprite.proofs.paint.paint_rows.Goals as goal
 
 pub loop-done-init : goal.loop-done-init
-loop-done-init c = EXC TypeError("'NoneType' object is not subscriptable") ([], frame-unpainted c.before.before.requires)
+loop-done-init c = ([], frame-unpainted c.requires)
 
 pub returns-in-Bad : goal.returns-in-Bad
-returns-in-Bad c = EXC TypeError("'NoneType' object is not subscriptable") absurd
-    (no-bad-row c.before.before.before.before.before.before.before.before.before.requires
-    c.before.before.before.before.before.before.loop.invariant.1 c.before.before.before.before.if1.true
-    (row-head-told c.enum_told.given.1 c.before.before.row_at.ensures))
+returns-in-Bad c = absurd
+    (no-bad-row c.requires
+    c.loop-done.invariant.1 c.loop-done-test.true
+    (row-head-told c.in-Bad.is c.row_at.ensures))
 
 pub overflow_add-done : goal.overflow_add-done
-overflow_add-done c = EXC TypeError("'NoneType' object is not subscriptable") let k = frame-paints-blank c.before.before.before.before.before.before.before.before.before.before.requires
-    c.before.before.before.before.before.before.before.loop.invariant.1 c.before.before.before.before.before.if1.true
-    (row-head-told c.before.count.given.1 c.before.before.before.row_at.ensures) in
-    let h = c.before.before.before.before.before.before.before.before.before.before.requires.low in
+overflow_add-done c = let k = frame-paints-blank c.requires
+    c.loop-done.invariant.1 c.loop-done-test.true
+    (row-head-told c.in-Blank.is c.row_at.ensures) in
+    let h = c.requires.low in
     record { fits = omega (arith, k.read.fits) }
 
 pub loop-done-smaller-in-Blank : goal.loop-done-smaller-in-Blank
@@ -31,24 +31,24 @@ loop-done-smaller-in-Blank c = let k = is-blank c.args.s.now _ _ _
     omega (arith, k.head)
 
 pub loop-done-preserved-in-Blank : goal.loop-done-preserved-in-Blank
-loop-done-preserved-in-Blank c = EXC TypeError("'NoneType' object is not subscriptable") (
+loop-done-preserved-in-Blank c = (
   _,
-  frame-paints-blank c.before.before.before.before.before.before.before.before.before.before.requires
-      c.before.before.before.before.before.before.before.loop.invariant.1 c.before.before.before.before.before.if1.true
-      (row-head-told c.before.count.given.1 c.before.before.before.row_at.ensures),
+  frame-paints-blank c.requires
+      c.loop-done.invariant.1 c.loop-done-test.true
+      (row-head-told c.in-Blank.is c.row_at.ensures),
 )
 
 pub paint_line-requires : goal.paint_line-requires
-paint_line-requires c = EXC TypeError("'NoneType' object is not subscriptable") let q = c.before.before.before.before.before.before.before.before.before.before.before.requires in
-    let k = is-data c.before.before.before.before.before.before.before.before.before.before.before.args.s.now _ _ _
-    (row-head-told c.before.before.end.given.1 c.before.before.before.before.row_at.ensures) in
+paint_line-requires c = let q = c.requires in
+    let k = is-data c.args.s.now _ _ _
+    (row-head-told c.in-Data.is c.row_at.ensures) in
     let h = k.head in
     record {
       order = omega arith;
       within = k.within;
       narrow = q.narrow;
       near = q.near;
-      exact = frame-length q c.before.before.before.before.before.before.before.before.loop.invariant.1;
+      exact = frame-length q c.loop-done.invariant.1;
     }
 
 pub loop-done-smaller : goal.loop-done-smaller
@@ -59,14 +59,14 @@ loop-done-smaller c = let k = is-data
     omega (arith, k.head, k.within)
 
 pub loop-done-preserved : goal.loop-done-preserved
-loop-done-preserved c = EXC TypeError("'NoneType' object is not subscriptable") (
+loop-done-preserved c = (
   _,
-  frame-paints-on c.before.before.before.before.before.before.before.before.before.before.before.before.before.before.requires
-      c.before.before.before.before.before.before.before.before.before.before.before.loop.invariant.1
-      c.before.before.before.before.before.before.before.before.before.if1.true
-      (row-head-told c.before.before.before.before.before.end.given.1
-      c.before.before.before.before.before.before.before.row_at.ensures) c.before.before.paint-line.ensures,
+  frame-paints-on c.requires
+      c.loop-done.invariant.1
+      c.loop-done-test.true
+      (row-head-told c.in-Data.is
+      c.row_at.ensures) c.paint_line.ensures,
 )
 
 pub returns : goal.returns
-returns c = EXC TypeError("'NoneType' object is not subscriptable") frame-painted c.before.before.before.before.before.requires c.before.before.loop.invariant.1 c.if1.false
+returns c = frame-painted c.requires c.loop-done.invariant.1 c.loop-done-test.false

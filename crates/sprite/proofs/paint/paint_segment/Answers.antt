@@ -6,20 +6,20 @@ use Rattle.sprite.proofs.Segmentwise.{unseen-kept, clear_kept, stores-within, re
 use Rattle.sprite.proofs.paint.paint_segment.Goals as goal
 
 pub returns-then-visible-eq0 : goal.returns-then-visible-eq0
-returns-then-visible-eq0 c = EXC TypeError("'NoneType' object is not subscriptable") unseen-kept c.before.before.before.before.before.requires c.before.before.clip.ensures c.if1.true
+returns-then-visible-eq0 c = unseen-kept c.requires c.clip-visible.ensures c.if-visible-eq0.true
 
 pub bounds-s-at-then-code-eq-RUN : goal.bounds-s-at-then-code-eq-RUN
-bounds-s-at-then-code-eq-RUN c = EXC TypeError("'NoneType' object is not subscriptable") let a = c.before.before.before.before.before.before.before.before.before.before.before.args in
-    omega (arith, c.before.before.before.before.before.before.before.before.before.before.before.requires.whole, bytes_run (code_at a.s.now a.at) (count_at a.s.now a.at) c.before.before.if2.true)
+bounds-s-at-then-code-eq-RUN c = let a = c.args in
+    omega (arith, c.requires.whole, bytes_run (code_at a.s.now a.at) (count_at a.s.now a.at) c.if-code-eq-RUN.true)
 
 pub returns-then-code-eq-RUN : goal.returns-then-code-eq-RUN
-returns-then-code-eq-RUN c = EXC TypeError("'NoneType' object is not subscriptable") run-painted c.before.before.before.before.before.before.before.before.before.before.before.before.before.before.requires c.before.before.before.before.before.before.before.before.before.before.before.clip.ensures c.before.before.before.before.before.before.before.before.before.if1.false c.before.before.before.before.before.if2.true c.before.before.fill.ensures
+returns-then-code-eq-RUN c = run-painted c.requires c.clip-visible.ensures c.if-visible-eq0.false c.if-code-eq-RUN.true c.fill.ensures
 
 pub copy-requires-clause-n_in_bounds_2 : goal.copy-requires-clause-n_in_bounds_2
-copy-requires-clause-n_in_bounds_2 c = EXC TypeError("'NoneType' object is not subscriptable") (stores-within c.before.before.before.before.before.before.before.before.before.before.before.before.requires c.before.before.before.before.before.before.before.before.before.clip.ensures c.before.before.before.before.before.before.before.if1.false, reads-within c.before.before.before.before.before.before.before.before.before.before.before.before.requires c.before.before.before.before.before.before.before.before.before.clip.ensures c.before.before.before.before.before.before.before.if1.false c.before.before.if3.true)
+copy-requires-clause-n_in_bounds_2 c = reads-within c.requires c.clip-visible.ensures c.if-visible-eq0.false c.if-code-eq-COPY.true
 
 pub returns-then-code-eq-COPY : goal.returns-then-code-eq-COPY
-returns-then-code-eq-COPY c = EXC TypeError("'NoneType' object is not subscriptable") copy-painted c.before.before.before.before.before.before.before.before.before.before.before.before.before.before.before.requires c.before.before.before.before.before.before.before.before.before.before.before.before.clip.ensures c.before.before.before.before.before.before.before.before.before.before.if1.false c.before.before.before.before.before.if3.true c.before.before.copy.ensures
+returns-then-code-eq-COPY c = copy-painted c.requires c.clip-visible.ensures c.if-visible-eq0.false c.if-code-eq-COPY.true c.copy.ensures
 
 pub returns-else-code-eq-COPY : goal.returns-else-code-eq-COPY
-returns-else-code-eq-COPY c = EXC TypeError("'NoneType' object is not subscriptable") clear_kept c.before.before.before.before.before.before.before.before.before.before.requires c.before.before.before.before.before.before.before.clip.ensures c.before.if2.false c.if3.false
+returns-else-code-eq-COPY c = clear_kept c.requires c.clip-visible.ensures c.if-code-eq-RUN.false c.if-code-eq-COPY.false
