@@ -1,0 +1,7 @@
+use Rattle.std.proofs.Common.{◌∙◌, arith, rules}
+use Rattle.smc.proofs.Flagged.{quad-row}
+use Rattle.smc.proofs.flags.quad_row.Goals as goal
+
+pub returns : goal.returns
+returns c = let a = c.args in
+    c.word.ensures ∙ quad-row a.t.now a.f (omega arith)

@@ -1,0 +1,12 @@
+use Rattle.std.proofs.Common.{length, ap, ◌∙◌, arith}
+use Rattle.smc.proofs.Making.{ran-whole}
+use Rattle.smc.proofs.Opcodes.{count-within, is_whole, facts-of, kind-of}
+use Rattle.smc.proofs.Runwise.{length-put_each, length-mark_each}
+use Rattle.smc.proofs.paint.whole_op.Goals as goal
+
+pub returns : goal.returns
+returns c = let a = c.args in
+    let el = c.lead_at-lead.ensures in
+    ran-whole a.c a.r c.requires.lent.canvas.wide a.s.now a.at a.k _ _ c.requires.room.within _ el.count _ el.body
+    (kind-of c.requires.room el (is_whole c.requires.room el c.requires.bound)) _ _ c.whole_run.ensures.pic_after
+    c.whole_run.ensures.map_after

@@ -1,0 +1,13 @@
+use Rattle.std.proofs.Common.{◌-◌, replicate, sym, refl, ◌∙◌, arith, rules}
+use Rattle.smc.proofs.Runwise.{fill-pixels, Putting, running_none, running_more, running-all}
+use Rattle.smc.proofs.runs.fill_run.Goals as goal
+
+pub loop-i-init : goal.loop-i-init
+loop-i-init c = running_none _ _ _ _ _ _ _ _ c.requires.canvas c.requires.map_len
+
+pub loop-i-preserved : goal.loop-i-preserved
+loop-i-preserved c = let a = c.args in
+    let g = c.loop-i.invariant in
+    let px = fill-pixels a.colour _ _ c.word-w.ensures refl in
+    running_more _ _ _ _ _ _ _ _ _ _ _ g (omega arith) _ px _ _ c.settle.ensures.pic_after
+    c.settle.ensures.map_after

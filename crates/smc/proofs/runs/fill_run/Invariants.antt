@@ -1,0 +1,9 @@
+use Rattle.std.proofs.Common.{◌-◌, replicate, sym, refl, ◌∙◌, arith, rules}
+use Rattle.smc.proofs.Runwise.{fill-pixels, Putting, running_none, running_more, running-all}
+use Rattle.smc.proofs.runs.fill_run.Given as goal
+
+abbrev pub invariant-loop-i : goal.invariant-loop-i
+invariant-loop-i l = Putting l.c l.r l.k l.n (λ j. replicate 16 l.colour) l.initial.pic l.initial.map l.i l.pic l.map
+
+abbrev pub decreases-loop-i : goal.decreases-loop-i
+decreases-loop-i l = l.n - l.i

@@ -1,0 +1,12 @@
+use Rattle.std.proofs.Common.{ℕ, ◌+◌, ◌-◌, ◌*◌, List, [], ◌∷◌, get_or, sym, ap, ◌∙◌, arith, rules}
+use Rattle.spec.specs.Basics.{part}
+use Rattle.spec.specs.Flags.{flags, chosen}
+use Rattle.smc.proofs.Flagged.{two_bytes, two-colours}
+use Rattle.smc.proofs.Runwise.{Putting, running_none, running_more, running-all}
+use Rattle.smc.proofs.runs.pair_run.Given as goal
+
+abbrev pub invariant-loop-i : goal.invariant-loop-i
+invariant-loop-i l = Putting l.c l.r l.k l.n (λ j. chosen (flags 1 (part l.s (l.at + 2 * j) 2)) l.t) l.initial.pic l.initial.map l.i l.pic l.map
+
+abbrev pub decreases-loop-i : goal.decreases-loop-i
+decreases-loop-i l = l.n - l.i

@@ -1,0 +1,18 @@
+use Rattle.std.proofs.Common.{ℕ, ◌+◌, ◌-◌, ◌*◌, List, sym, ap, ◌∙◌, arith, rules}
+use Rattle.spec.specs.Basics.{part}
+use Rattle.spec.specs.Flags.{flags, chosen}
+use Rattle.smc.proofs.Flagged.{four_bytes}
+use Rattle.smc.proofs.Runwise.{Putting, running_none, running_more, running-all}
+use Rattle.smc.proofs.runs.quad_run.Goals as goal
+
+pub loop-i-init : goal.loop-i-init
+loop-i-init c = running_none _ _ _ _ _ _ _ _ c.requires.canvas c.requires.map_len
+
+pub loop-i-preserved : goal.loop-i-preserved
+loop-i-preserved c = let a = c.args in
+    let g = c.loop-i.invariant in
+    let q = a.at + 4 * c.loop-i.i in
+    let px = c.quad_rows-rows.ensures
+    ∙ ap (λ (bs : List ℕ). chosen (flags 2 bs) a.t.now) (four_bytes a.s.now q (omega arith)) in
+    running_more _ _ _ _ _ _ _ _ _ _ _ g (omega arith) _ px _ _ c.settle.ensures.pic_after
+    c.settle.ensures.map_after

@@ -1,0 +1,12 @@
+use Rattle.std.proofs.Common.{ℕ, ◌+◌, ◌-◌, ◌*◌, List, sym, ap, ◌∙◌, arith, rules}
+use Rattle.spec.specs.Basics.{part}
+use Rattle.spec.specs.Flags.{flags, chosen}
+use Rattle.smc.proofs.Flagged.{four_bytes}
+use Rattle.smc.proofs.Runwise.{Putting, running_none, running_more, running-all}
+use Rattle.smc.proofs.runs.quad_run.Given as goal
+
+abbrev pub invariant-loop-i : goal.invariant-loop-i
+invariant-loop-i l = Putting l.c l.r l.k l.n (λ j. chosen (flags 2 (part l.s (l.at + 4 * j) 4)) l.t) l.initial.pic l.initial.map l.i l.pic l.map
+
+abbrev pub decreases-loop-i : goal.decreases-loop-i
+decreases-loop-i l = l.n - l.i

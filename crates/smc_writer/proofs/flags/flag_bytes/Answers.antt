@@ -1,0 +1,17 @@
+use mathlib.Core.Path.{◌∙◌}
+use Rattle.smc_writer.proofs.RowNumbers.{counted-below, counted-packed}
+use borrow.Author.Rules.{rules}
+use Rattle.smc_writer.proofs.flags.flag_bytes.Goals as goal
+
+pub pack-requires-clause-a_bound : goal.pack-requires-clause-a_bound
+pack-requires-clause-a_bound c = let pre = c.requires.CLAUSE?.1.1 in
+    let size = c.table_size-n.ensures.0 in
+    counted-below c.args.bits c.args.px.now pre.0 c.args.list.now size pre.1.1 pre.1.0
+          c.row_number-a.ensures c.row_number-b.ensures c.row_number-c.ensures c.row_number-d.ensures
+
+pub returns : goal.returns
+returns c = let pre = c.requires.CLAUSE?.1.1 in
+    let size = c.table_size-n.ensures.0 in
+    c.pack.ensures
+    ∙ counted-packed c.args.bits c.args.px.now pre.0 c.args.list.now size pre.1.1 pre.1.0
+    c.row_number-a.ensures c.row_number-b.ensures c.row_number-c.ensures c.row_number-d.ensures c.requires.le_bits.0 c.requires.le_bits.1
