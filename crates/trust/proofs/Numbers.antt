@@ -46,6 +46,7 @@ has e [] = false
 has e (x ∷ xs) = eqb x e || has e xs
 
 pub another : (e : ℕ) {x : ℕ} {l : List ℕ} → Among x l → has e l ≡ false → x ≢ e
+another e {x = x} {l = []} x9 h same = elim x9 [ ]
 another e {l = x ∷ l} here h same = true≢false (rw (eq-eqb x e same) at h)
 another e {x} {l = y ∷ l} (there p) h same = another e p (rest (eqb y e) h) same
   where

@@ -27,11 +27,11 @@ put_counting-bytes-requires-clause-m_in_bounds c = let a = c.args in
 
 pub returns-then-kept-k-ne0-clause-bytes_value : goal.returns-then-kept-k-ne0-clause-bytes_value
 returns-then-kept-k-ne0-clause-bytes_value c = let run = c.run_at-blocks in
-    rw (bytes-skip _ _ _ _ _ c.if-kept-k-ne0.true, ← run.ensures) (refl, c.put_counting-bytes.ensures)
+    rw (bytes-skip _ _ _ _ _ c.if-kept-k-ne0.true, ← run.ensures) (c.put_counting-bytes.ensures.value)
 
 pub returns-then-kept-k-ne0-clause-out_after : goal.returns-then-kept-k-ne0-clause-out_after
 returns-then-kept-k-ne0-clause-out_after c = let run = c.run_at-blocks in
-    rw (bytes-skip _ _ _ _ _ c.if-kept-k-ne0.true, ← run.ensures) (refl, c.put_counting-bytes.ensures)
+    rw (bytes-skip _ _ _ _ _ c.if-kept-k-ne0.true, ← run.ensures) (c.put_counting-bytes.ensures.out_after)
 
 pub put_fill-bytes-requires-clause-le_m : goal.put_fill-bytes-requires-clause-le_m
 put_fill-bytes-requires-clause-le_m c = let a = c.args in
@@ -56,13 +56,11 @@ put_fill-bytes-requires-clause-colour_in_bounds c = let a = c.args in
 
 pub returns-then-is_plain-clause-bytes_value : goal.returns-then-is_plain-clause-bytes_value
 returns-then-is_plain-clause-bytes_value c = let run = c.run_at-blocks-then-is_plain in
-    rw (bytes-fill _ _ _ _ _ c.if-kept-k-ne0.false _ c.block_at-rows.ensures (sym c.is_plain.ensures ∙ c.if-is_plain.true), ← run.ensures, ← c.first_of.ensures)
-    (refl, c.put_fill-bytes.ensures)
+    rw (bytes-fill _ _ _ _ _ c.if-kept-k-ne0.false _ c.block_at-rows.ensures (sym c.is_plain.ensures ∙ c.if-is_plain.true), ← run.ensures, ← c.first_of.ensures) (c.put_fill-bytes.ensures.value)
 
 pub returns-then-is_plain-clause-out_after : goal.returns-then-is_plain-clause-out_after
 returns-then-is_plain-clause-out_after c = let run = c.run_at-blocks-then-is_plain in
-    rw (bytes-fill _ _ _ _ _ c.if-kept-k-ne0.false _ c.block_at-rows.ensures (sym c.is_plain.ensures ∙ c.if-is_plain.true), ← run.ensures, ← c.first_of.ensures)
-    (refl, c.put_fill-bytes.ensures)
+    rw (bytes-fill _ _ _ _ _ c.if-kept-k-ne0.false _ c.block_at-rows.ensures (sym c.is_plain.ensures ∙ c.if-is_plain.true), ← run.ensures, ← c.first_of.ensures) (c.put_fill-bytes.ensures.out_after)
 
 pub put_single-bytes-requires-clause-px_in_bounds : goal.put_single-bytes-requires-clause-px_in_bounds
 put_single-bytes-requires-clause-px_in_bounds c = let a = c.args in
@@ -71,19 +69,15 @@ put_single-bytes-requires-clause-px_in_bounds c = let a = c.args in
     rw (e, ← q) at c.requires.k_in_bounds
 
 pub returns-clause-blocks_value : goal.returns-clause-blocks_value
-returns-clause-blocks_value c = let changed = c.if-kept-k-ne0.false in
-    let e = c.block_at-rows.ensures in
-    let mixed = sym c.is_plain.ensures ∙ c.if-is_plain.false in
-    ((run-single _ _ _ _ _ changed _ e mixed, rw (bytes-single _ _ _ _ _ changed _ e mixed, ← c.pixels_of-px.ensures) c.put_single-bytes.ensures)).0
+returns-clause-blocks_value c =
+    run-single _ _ _ _ _ c.if-kept-k-ne0.false _ c.block_at-rows.ensures (sym c.is_plain.ensures ∙ c.if-is_plain.false)
 
 pub returns-clause-bytes_value : goal.returns-clause-bytes_value
-returns-clause-bytes_value c = let changed = c.if-kept-k-ne0.false in
-    let e = c.block_at-rows.ensures in
+returns-clause-bytes_value c =
     let mixed = sym c.is_plain.ensures ∙ c.if-is_plain.false in
-    ((run-single _ _ _ _ _ changed _ e mixed, rw (bytes-single _ _ _ _ _ changed _ e mixed, ← c.pixels_of-px.ensures) c.put_single-bytes.ensures)).1.0
+    rw (bytes-single _ _ _ _ _ c.if-kept-k-ne0.false _ c.block_at-rows.ensures mixed, ← c.pixels_of-px.ensures) c.put_single-bytes.ensures.value
 
 pub returns-clause-out_after : goal.returns-clause-out_after
-returns-clause-out_after c = let changed = c.if-kept-k-ne0.false in
-    let e = c.block_at-rows.ensures in
+returns-clause-out_after c =
     let mixed = sym c.is_plain.ensures ∙ c.if-is_plain.false in
-    ((run-single _ _ _ _ _ changed _ e mixed, rw (bytes-single _ _ _ _ _ changed _ e mixed, ← c.pixels_of-px.ensures) c.put_single-bytes.ensures)).1.1
+    rw (bytes-single _ _ _ _ _ c.if-kept-k-ne0.false _ c.block_at-rows.ensures mixed, ← c.pixels_of-px.ensures) c.put_single-bytes.ensures.out_after

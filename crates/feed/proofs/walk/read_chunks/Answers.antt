@@ -1,0 +1,47 @@
+use Prim.Native.Nat.{◌-◌}
+use mathlib.Core.Path.{◌≡◌, refl, sym, ap, ◌∙◌}
+use native.Mathlib.Omega.{arith}
+use lib.ListN.{length}
+use Rattle.spec.specs.Sizes.{blocks}
+use Rattle.spec.specs.Boards.{Board, board}
+use Rattle.feed.proofs.Walking.{Walking, walking-none, counted-more, counted_same, step-onward, accepted-fits, walking_on, walking-over, walking-left}
+use Rattle.feed.proofs.walk.read_chunks.Goals as goal
+
+pub loop-at-smaller-then-answer-eq-OK : goal.loop-at-smaller-then-answer-eq-OK
+loop-at-smaller-then-answer-eq-OK c = let o = step-onward c.loop-at.invariant.2 c.step_behind-step.ensures.value c.if-step.true in
+    omega (arith, o.further, o.within)
+
+pub loop-at-preserved-then-answer-eq-OK : goal.loop-at-preserved-then-answer-eq-OK
+loop-at-preserved-then-answer-eq-OK c = let inv = c.loop-at.invariant in
+    (
+      c.picture-1.given ∙ inv.0,
+      c.map-1.given ∙ inv.1,
+      walking_on inv.2 c.step_behind-step.ensures.value c.if-step.true c.step_behind-step.ensures.picture_after c.step_behind-step.ensures.map_after _ (counted-more _ c.if-answer-eq-OK.true),
+    )
+
+pub loop-at-smaller : goal.loop-at-smaller
+loop-at-smaller c = let o = step-onward c.loop-at.invariant.2 c.step_behind-step.ensures.value c.if-step.true in
+    omega (arith, o.further, o.within)
+
+pub loop-at-preserved : goal.loop-at-preserved
+loop-at-preserved c = let inv = c.loop-at.invariant in
+    (
+      c.picture-1.given ∙ inv.0,
+      c.map-1.given ∙ inv.1,
+      walking_on inv.2 c.step_behind-step.ensures.value c.if-step.true c.step_behind-step.ensures.picture_after c.step_behind-step.ensures.map_after _ (counted_same _ c.if-answer-eq-OK.false),
+    )
+
+pub returns-else-step-clause-value : goal.returns-else-step-clause-value
+returns-else-step-clause-value c = let w = c.loop-at.invariant.2 in
+    let l = walking-left w c.step_behind-step.ensures.value c.if-step.false in
+    walking-over w c.step_behind-step.ensures.value c.if-step.false
+
+pub returns-else-step-clause-picture_after : goal.returns-else-step-clause-picture_after
+returns-else-step-clause-picture_after c = let w = c.loop-at.invariant.2 in
+    let l = walking-left w c.step_behind-step.ensures.value c.if-step.false in
+    c.step_behind-step.ensures.picture_after ∙ ap (λ (b : Board). b.picture) l
+
+pub returns-else-step-clause-map_after : goal.returns-else-step-clause-map_after
+returns-else-step-clause-map_after c = let w = c.loop-at.invariant.2 in
+    let l = walking-left w c.step_behind-step.ensures.value c.if-step.false in
+    c.step_behind-step.ensures.map_after ∙ ap (λ (b : Board). b.map) l

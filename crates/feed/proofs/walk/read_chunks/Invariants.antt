@@ -1,0 +1,16 @@
+use Prim.Native.Nat.{◌-◌}
+use mathlib.Core.Path.{◌≡◌, refl, sym, ap, ◌∙◌}
+use native.Mathlib.Omega.{arith}
+use lib.ListN.{length}
+use Rattle.spec.specs.Sizes.{blocks}
+use Rattle.spec.specs.Boards.{Board, board}
+use Rattle.feed.proofs.Walking.{Walking, walking-none, counted-more, counted_same, step-onward, accepted-fits, walking_on, walking-over, walking-left}
+use Rattle.feed.proofs.walk.read_chunks.Given as goal
+
+abbrev pub invariant-loop-at : goal.invariant-loop-at
+invariant-loop-at l = (length l.picture ≡ length l.initial.picture)
+    × (length l.map ≡ length l.initial.map)
+    × Walking l.initial.kept.size l.feed l.first (board l.initial.picture l.initial.map l.initial.kept.unsettled) l.at l.accepted l.picture l.map l.kept
+
+abbrev pub decreases-loop-at : goal.decreases-loop-at
+decreases-loop-at l = length l.feed - l.at
