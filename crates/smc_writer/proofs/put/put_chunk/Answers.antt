@@ -7,20 +7,13 @@ use Rattle.smc_writer.proofs.Progress.{opcodes-few}
 use Rattle.smc_writer.proofs.Emitting.{four-fit, opcodes-fit, length-behind, chunk-put}
 use Rattle.smc_writer.proofs.put.put_chunk.Goals as goal
 
--- NEED? part-put-opcodes-start : tie.Need-slice-bounds-put-opcodes-start
--- part-put-opcodes-start c =
---     let start = c.before.before.before in
---     let four = four-fit _ start.args.out.now start.requires.1.1 in
---     search rules
-
--- NEED? part-put-opcodes-end : tie.Need-slice-bounds-put-opcodes-end
--- part-put-opcodes-end c = search rules
-
 pub slice_bounds-put_opcodes-count : goal.slice_bounds-put_opcodes-count
 slice_bounds-put_opcodes-count c = four-fit _ c.args.out.now c.requires.in_bounds
 
 pub slice_bounds-put_opcodes-start : goal.slice_bounds-put_opcodes-start
-slice_bounds-put_opcodes-start c = ?
+slice_bounds-put_opcodes-start c =
+    let four = four-fit _ c.args.out.now c.requires.in_bounds in
+    search rules
 
 pub put_opcodes-length-requires-clause-in_bounds : goal.put_opcodes-length-requires-clause-in_bounds
 put_opcodes-length-requires-clause-in_bounds c = opcodes-fit _ c.args.out.now c.requires.in_bounds

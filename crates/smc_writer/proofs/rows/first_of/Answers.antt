@@ -3,4 +3,5 @@ use Rattle.blocks.specs.Blocks.{row_of, pixels}
 use Rattle.smc_writer.proofs.rows.first_of.Goals as goal
 
 pub returns : goal.returns
-returns c = ?
+unfolding pixels row_of
+returns c = search rules

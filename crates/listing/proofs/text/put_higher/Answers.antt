@@ -1,0 +1,13 @@
+use native.Mathlib.Omega.{arith}
+use Rattle.listing.proofs.Texts.{Spelling, spelling-none, spelling-room, spelling-more, spelling-end}
+use Rattle.listing.proofs.text.put_higher.Goals as goal
+
+pub loop-left-init : goal.loop-left-init
+loop-left-init c = spelling-none _ _ _ c.requires.n_bound
+
+pub loop-left-preserved : goal.loop-left-preserved
+loop-left-preserved c = spelling-more c.loop-left.invariant (omega arith) c.requires.le_end c.requires.end_in_bounds
+
+pub returns-clause-text_after : goal.returns-clause-text_after
+returns-clause-text_after c = let w = c.loop-left.invariant in
+    spelling-end w (omega arith)

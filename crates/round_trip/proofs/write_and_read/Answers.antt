@@ -1,0 +1,105 @@
+use mathlib.Core.Path.{sym, ap, ◌∙◌}
+use lib.Seq.{length-take-le}
+use Rattle.spec.specs.declared.Count.{Count}
+use Rattle.trust.proofs.Demand3.{counts-unsettled}
+use Rattle.round_trip.specs.Trip.{lent_board}
+use Rattle.round_trip.proofs.Trips.{told, trip-refused, trip-written, written-long, trip-bad-board, fine}
+use borrow.Author.Rules.{rules}
+use Rattle.round_trip.proofs.write_and_read.Goals as goal
+
+pub returns-then-number-ne-OK-clause-value : goal.returns-then-number-ne-OK-clause-value
+returns-then-number-ne-OK-clause-value c = let a = c.args in
+    let lent = lent_board a.picture.now a.map.now in
+    let q = c.board_fault-number.ensures in
+    (told (trip-bad-board a.size a.new.now lent a.out.now _ q c.if-number-ne-OK.true)).0
+
+pub returns-then-number-ne-OK-clause-picture_after : goal.returns-then-number-ne-OK-clause-picture_after
+returns-then-number-ne-OK-clause-picture_after c = let a = c.args in
+    let lent = lent_board a.picture.now a.map.now in
+    let q = c.board_fault-number.ensures in
+    (told (trip-bad-board a.size a.new.now lent a.out.now _ q c.if-number-ne-OK.true)).1.0
+
+pub returns-then-number-ne-OK-clause-map_after : goal.returns-then-number-ne-OK-clause-map_after
+returns-then-number-ne-OK-clause-map_after c = let a = c.args in
+    let lent = lent_board a.picture.now a.map.now in
+    let q = c.board_fault-number.ensures in
+    (told (trip-bad-board a.size a.new.now lent a.out.now _ q c.if-number-ne-OK.true)).1.1.0
+
+pub returns-then-number-ne-OK-clause-out_after : goal.returns-then-number-ne-OK-clause-out_after
+returns-then-number-ne-OK-clause-out_after c = let a = c.args in
+    let lent = lent_board a.picture.now a.map.now in
+    let q = c.board_fault-number.ensures in
+    (told (trip-bad-board a.size a.new.now lent a.out.now _ q c.if-number-ne-OK.true)).1.1.1
+
+pub returns-then-wrote-ne-OK-clause-value : goal.returns-then-wrote-ne-OK-clause-value
+returns-then-wrote-ne-OK-clause-value c = let a = c.args in
+    let lent = lent_board a.picture.now a.map.now in
+    let e = (fine a.size a.new.now lent a.out.now _ c.board_fault-number.ensures c.if-number-ne-OK.false).1 in
+    (told (trip-refused a.size a.new.now lent e a.out.now _ c.write_chunk-wrote.ensures.value _ c.write_chunk-wrote.ensures.out_after c.if-wrote-ne-OK.true)).0
+
+pub returns-then-wrote-ne-OK-clause-picture_after : goal.returns-then-wrote-ne-OK-clause-picture_after
+returns-then-wrote-ne-OK-clause-picture_after c = let a = c.args in
+    let lent = lent_board a.picture.now a.map.now in
+    let e = (fine a.size a.new.now lent a.out.now _ c.board_fault-number.ensures c.if-number-ne-OK.false).1 in
+    (told (trip-refused a.size a.new.now lent e a.out.now _ c.write_chunk-wrote.ensures.value _ c.write_chunk-wrote.ensures.out_after c.if-wrote-ne-OK.true)).1.0
+
+pub returns-then-wrote-ne-OK-clause-map_after : goal.returns-then-wrote-ne-OK-clause-map_after
+returns-then-wrote-ne-OK-clause-map_after c = let a = c.args in
+    let lent = lent_board a.picture.now a.map.now in
+    let e = (fine a.size a.new.now lent a.out.now _ c.board_fault-number.ensures c.if-number-ne-OK.false).1 in
+    (told (trip-refused a.size a.new.now lent e a.out.now _ c.write_chunk-wrote.ensures.value _ c.write_chunk-wrote.ensures.out_after c.if-wrote-ne-OK.true)).1.1.0
+
+pub returns-then-wrote-ne-OK-clause-out_after : goal.returns-then-wrote-ne-OK-clause-out_after
+returns-then-wrote-ne-OK-clause-out_after c = let a = c.args in
+    let lent = lent_board a.picture.now a.map.now in
+    let e = (fine a.size a.new.now lent a.out.now _ c.board_fault-number.ensures c.if-number-ne-OK.false).1 in
+    (told (trip-refused a.size a.new.now lent e a.out.now _ c.write_chunk-wrote.ensures.value _ c.write_chunk-wrote.ensures.out_after c.if-wrote-ne-OK.true)).1.1.1
+
+pub slice_bounds-read_chunk-end : goal.slice_bounds-read_chunk-end
+slice_bounds-read_chunk-end c = let a = c.args in
+    let lent = lent_board a.picture.now a.map.now in
+    let e = (fine a.size a.new.now lent a.out.now _ c.board_fault-number.ensures c.if-number-ne-OK.false).1 in
+    written-long a.size a.new.now lent e a.out.now _ c.write_chunk-wrote.ensures.value _ c.write_chunk-wrote.ensures.out_after c.if-wrote-ne-OK.false
+
+pub slice_bounds-read_chunk-end-2 : goal.slice_bounds-read_chunk-end-2
+slice_bounds-read_chunk-end-2 c = let a = c.args in
+    let lent = lent_board a.picture.now a.map.now in
+    let e = (fine a.size a.new.now lent a.out.now _ c.board_fault-number.ensures c.if-number-ne-OK.false).1 in
+    sym (length-take-le _ _ (written-long a.size a.new.now lent e a.out.now _ c.write_chunk-wrote.ensures.value _ c.write_chunk-wrote.ensures.out_after c.if-wrote-ne-OK.false))
+
+pub returns-clause-value : goal.returns-clause-value
+returns-clause-value c = let a = c.args in
+    let lent = lent_board a.picture.now a.map.now in
+    let e = fine a.size a.new.now lent a.out.now _ c.board_fault-number.ensures c.if-number-ne-OK.false in
+    let counted = c.count_unsettled-count.ensures
+    ∙ counts-unsettled a.size e.0 a.map.now e.1.map in
+    let r = rw (ap (λ (n : Count). n.unsettled) counted) at c.read_chunk-read.ensures in
+    let t = told (trip-written a.size a.new.now lent e.1 a.out.now _ c.write_chunk-wrote.ensures.value _ c.write_chunk-wrote.ensures.out_after c.if-wrote-ne-OK.false e.0) in
+    r.answer_value ∙ t.0
+
+pub returns-clause-picture_after : goal.returns-clause-picture_after
+returns-clause-picture_after c = let a = c.args in
+    let lent = lent_board a.picture.now a.map.now in
+    let e = fine a.size a.new.now lent a.out.now _ c.board_fault-number.ensures c.if-number-ne-OK.false in
+    let counted = c.count_unsettled-count.ensures
+    ∙ counts-unsettled a.size e.0 a.map.now e.1.map in
+    let r = rw (ap (λ (n : Count). n.unsettled) counted) at c.read_chunk-read.ensures in
+    let t = told (trip-written a.size a.new.now lent e.1 a.out.now _ c.write_chunk-wrote.ensures.value _ c.write_chunk-wrote.ensures.out_after c.if-wrote-ne-OK.false e.0) in
+    r.picture_after ∙ t.1.0
+
+pub returns-clause-map_after : goal.returns-clause-map_after
+returns-clause-map_after c = let a = c.args in
+    let lent = lent_board a.picture.now a.map.now in
+    let e = fine a.size a.new.now lent a.out.now _ c.board_fault-number.ensures c.if-number-ne-OK.false in
+    let counted = c.count_unsettled-count.ensures
+    ∙ counts-unsettled a.size e.0 a.map.now e.1.map in
+    let r = rw (ap (λ (n : Count). n.unsettled) counted) at c.read_chunk-read.ensures in
+    let t = told (trip-written a.size a.new.now lent e.1 a.out.now _ c.write_chunk-wrote.ensures.value _ c.write_chunk-wrote.ensures.out_after c.if-wrote-ne-OK.false e.0) in
+    r.map_after ∙ t.1.1.0
+
+pub returns-clause-out_after : goal.returns-clause-out_after
+returns-clause-out_after c = let a = c.args in
+    let lent = lent_board a.picture.now a.map.now in
+    let e = fine a.size a.new.now lent a.out.now _ c.board_fault-number.ensures c.if-number-ne-OK.false in
+    let t = told (trip-written a.size a.new.now lent e.1 a.out.now _ c.write_chunk-wrote.ensures.value _ c.write_chunk-wrote.ensures.out_after c.if-wrote-ne-OK.false e.0) in
+    t.1.1.1
