@@ -1,7 +1,6 @@
 // The types that every function of the project answers with and is lent. What they mean is defined in specs/.
 #![tactic(auto)]
 
-
 // What a call answers: a number of paper 01's table, a place, and the block at which it stopped.
 #[repr(C)]
 #[derive(Clone, Copy)]

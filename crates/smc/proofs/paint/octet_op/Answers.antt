@@ -10,7 +10,7 @@ pub colours_at-colours-requires-clause-w_in_bounds_2 : goal.colours_at-colours-r
 colours_at-colours-requires-clause-w_in_bounds_2 c = let el = c.lead_at-lead.ensures in
     let en = c.entry_of-entry.ensures in
     entry-stored octets _ _ c.requires.room el c.requires.bound en
-          c.requires.t_len (omega arith)
+    c.requires.t_len (omega arith)
 
 pub octet_run-requires-clause-n_in_bounds : goal.octet_run-requires-clause-n_in_bounds
 octet_run-requires-clause-n_in_bounds c = let el = c.lead_at-lead.ensures in

@@ -29,10 +29,10 @@ put_row-requires-4 c = omega (arith, span _ _ _ _ c.requires.canvas c.requires.k
 pub returns : goal.returns
 unfolding pixels
 returns c = rw (
-      c.put_row-4.ensures,
-      c.put_row-3.ensures,
-      c.put_row-2.ensures,
-      c.put_row.ensures,
-    )
+  c.put_row-4.ensures,
+  c.put_row-3.ensures,
+  c.put_row-2.ensures,
+  c.put_row.ensures,
+)
     (put-rows _ _ _ c.place_of-p.ensures _ (four-row_of _) (four-row_of _) (four-row_of _)
     (four-row_of _))

@@ -25,11 +25,11 @@ returns-then-k-reach_of c = let a = c.args in
 
 pub overflow_mul-times_of : goal.overflow_mul-times_of
 overflow_mul-times_of c = omega (
-      arith,
-      blocks-small c.lead_at-lead.ensures
-          (c.shared_slice_known-1.given _).fits
-          (c.shared_slice_known-1.given _).fits c.times_of.ensures,
-    )
+  arith,
+  blocks-small c.lead_at-lead.ensures
+      (c.shared_slice_known-1.given _).fits
+      (c.shared_slice_known-1.given _).fits c.times_of.ensures,
+)
 
 pub returns-then-blocks-k : goal.returns-then-blocks-k
 returns-then-blocks-k c = let a = c.args in

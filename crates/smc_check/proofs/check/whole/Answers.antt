@@ -9,10 +9,10 @@ lead_at-lead-requires-clause-at_in_bounds_2 c = stands-body c.requires.stands (c
 
 pub overflow_mul-m : goal.overflow_mul-m
 overflow_mul-m c = omega (
-      arith,
-      blocks-small c.lead_at-lead.ensures (c.type_inv.s _).fits
-          (c.type_inv.s _).fits c.times_of.ensures,
-    )
+  arith,
+  blocks-small c.lead_at-lead.ensures (c.type_inv.s _).fits
+      (c.type_inv.s _).fits c.times_of.ensures,
+)
 
 pub returns-then-upper-eq15 : goal.returns-then-upper-eq15
 returns-then-upper-eq15 c = way_unknown _ _ _ _ _ (omega (arith, c.lead_at-lead.ensures.upper, c.if-upper-eq15.true))

@@ -9,4 +9,4 @@ returns-then-len-lt4-clause-balanced c = balanced-refused _ _ _ _ _ (refused-sho
 
 pub returns-then-stated-len-clause-balanced : goal.returns-then-stated-len-clause-balanced
 returns-then-stated-len-clause-balanced c = balanced-refused _ _ _ _ _
-      (refused-differs _ _ (omega arith) (λ e. c.if-stated-len.true (c.stated.ensures.value ∙ e)))
+    (refused-differs _ _ (omega arith) (λ e. c.if-stated-len.true (c.stated.ensures.value ∙ e)))

@@ -35,7 +35,7 @@ returns-in-Bad-clause-balanced c = let a = c.args in
     let inv = c.loop-k.invariant in
     let g = inv.2 in
     balanced-bad a.blocks s _ _ _ g.behind (omega arith) (omega arith)
-          (hinted-bad a.blocks s _ _ _ _ _ c.in-Bad.is c.head_at-head.ensures) m _
+    (hinted-bad a.blocks s _ _ _ _ _ c.in-Bad.is c.head_at-head.ensures) m _
 
 pub reach_of-far-requires-clause-upper_bound : goal.reach_of-far-requires-clause-upper_bound
 reach_of-far-requires-clause-upper_bound c = let a = c.args in
@@ -113,7 +113,7 @@ returns-then-padding-clause-answer_value c = let a = c.args in
     let g = inv.2 in
     let pad = sym c.padding.ensures ∙ c.if-padding.true in
     c.stop.ensures
-          ∙ ends-ok a.blocks s _ _ _ g.behind (omega arith) pad
+    ∙ ends-ok a.blocks s _ _ _ g.behind (omega arith) pad
 
 pub returns-then-padding-clause-balanced : goal.returns-then-padding-clause-balanced
 returns-then-padding-clause-balanced c = let a = c.args in
@@ -123,7 +123,7 @@ returns-then-padding-clause-balanced c = let a = c.args in
     let g = inv.2 in
     let pad = sym c.padding.ensures ∙ c.if-padding.true in
     balanced-ok a.blocks s m _ _ _ _ c.requires.map_len.0 g (omega arith) pad _
-          c.summed.ensures
+    c.summed.ensures
 
 pub returns-clause-balanced : goal.returns-clause-balanced
 returns-clause-balanced c = let a = c.args in

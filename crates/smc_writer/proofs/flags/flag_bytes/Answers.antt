@@ -6,7 +6,7 @@ use Rattle.smc_writer.proofs.flags.flag_bytes.Goals as goal
 pub pack-requires-clause-a_bound : goal.pack-requires-clause-a_bound
 pack-requires-clause-a_bound c = let size = c.table_size-n.ensures.0 in
     counted-below c.args.bits c.args.px.now c.requires.px_len c.args.list.now size c.requires.list_value c.requires.px_len_bound
-          c.row_number-a.ensures c.row_number-b.ensures c.row_number-c.ensures c.row_number-d.ensures
+    c.row_number-a.ensures c.row_number-b.ensures c.row_number-c.ensures c.row_number-d.ensures
 
 pub returns : goal.returns
 returns c = let size = c.table_size-n.ensures.0 in

@@ -42,4 +42,4 @@ returns-clause-out_after c = let a = c.args in
     let e = counting-long a.u a.m (omega arith) in
     let h : 1 < length a.out.now = (let l = ap length e in omega (arith, c.requires.m_in_bounds)) in
     rw e (ap (λ (o : List ℕ). set o 1 (a.m - 1)) (onto-set [] a.out.now 0 (16 * (a.u + 1)) refl (omega arith))
-          ∙ onto-set (16 * (a.u + 1) ∷ []) a.out.now 1 (a.m - 1) refl h)
+    ∙ onto-set (16 * (a.u + 1) ∷ []) a.out.now 1 (a.m - 1) refl h)

@@ -26,5 +26,5 @@ returns-clause-out_after c = let small = c.requires.le_bits in
     let px = c.args.px.now in
     let cs = length-entries c.args.bits (colours px) c.requires.px_len_bound in
     table-put c.args.bits t.result t.ensures.0 c.args.list.now c.flag_bytes-bytes.result px c.args.out.now
-          (omega (arith, t.ensures.0)) (omega (arith, t.ensures.1)) (entries c.args.bits (colours px)) c.requires.list_value c.flag_bytes-bytes.ensures _ _
-          c.put_bytes.ensures c.put_bytes-2.ensures
+    (omega (arith, t.ensures.0)) (omega (arith, t.ensures.1)) (entries c.args.bits (colours px)) c.requires.list_value c.flag_bytes-bytes.ensures _ _
+    c.put_bytes.ensures c.put_bytes-2.ensures
