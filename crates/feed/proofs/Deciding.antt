@@ -9,7 +9,6 @@ use lib.ListN.{length, get_or}
 use borrow.Author.Tests.{eqb-true, ltb-false}
 use Rattle.spec.specs.declared.Size.{Size}
 use Rattle.spec.specs.declared.Decision.{Decision}
-use Rattle.spec.specs.declared.Decision.TheVariants as Decision
 use Rattle.spec.specs.Answers.{ok}
 use Rattle.spec.specs.Sizes.{allowed, pixels, blocks}
 use Rattle.spec.specs.Listing.{max_feed, max_shown_pixels, decide_by, decide, decision_says}

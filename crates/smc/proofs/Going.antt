@@ -7,27 +7,7 @@ use Rattle.spec.specs.Answers.{chunk_short, length_differs, answer_at, answer}
 use Rattle.spec.specs.Flags.{number}
 use Rattle.spec.specs.Maps.{remap}
 use Rattle.spec.specs.Pictures.{paint}
-use Rattle.spec.specs.Chunks.{
-  Head,
-  fills,
-  missing,
-  upper_at,
-  count_at,
-  body_at,
-  opcode,
-  act,
-  step,
-  State,
-  start,
-  emptied,
-  Outcome,
-  refused,
-  accepted,
-  padding,
-  resume,
-  loop,
-  decode,
-}
+use Rattle.spec.specs.Chunks.{Head, fills, missing, upper_at, count_at, body_at, act, step, State, start, emptied, Outcome, refused, accepted, padding, resume, loop, decode}
 use Rattle.spec.proofs.Heads.{Known, bad, good, known-head, body-after}
 use Rattle.spec.proofs.Loops.{unroll, loop-remains, loop-accepts, loop-follows}
 use Rattle.spec.proofs.Made.{length-extend}

@@ -2,20 +2,19 @@
 -- Assumes nothing.
 use Prim.Native.Nat.{ℕ, suc, ◌+◌, ◌-◌, ◌<◌, ◌≤◌}
 use mathlib.Core.Path.{◌≡◌, refl, sym, subst⁻¹}
-use mathlib.Core.List.{List, [], ◌∷◌}
+use mathlib.Core.List.{List, []}
 use mathlib.Core.Bool.{Bool, true, false, true≢false}
 use native.Mathlib.Omega.{arith}
 use lib.ListN.{length}
 use lib.Dec.{ltb}
 use borrow.Author.Tests.{ltb-true, ltb-false, le-ltb}
-use Rattle.spec.specs.declared.Answer.{Answer}
 use Rattle.spec.specs.declared.Size.{Size}
 use Rattle.spec.specs.declared.Varint.{Varint}
 use Rattle.spec.specs.declared.Varint.TheVariants.{Bad, Value}
 use Rattle.spec.specs.declared.Step.{Step}
 use Rattle.spec.specs.Basics.{if}
 use Rattle.spec.specs.Maps.{record_of}
-use Rattle.spec.specs.Boards.{Board, Left, left, in_turn}
+use Rattle.spec.specs.Boards.{Board, left, in_turn}
 use Rattle.spec.specs.Feeds as Feeds
 use Rattle.spec.specs.Feeds.{varint_at, Ending, Next, chunk, end, chunk_at, next_at, Chunks, and_onward, chunks_from, Reply, reply, read_all, said_first, step_by}
 use Rattle.spec.proofs.Fuel.{by-fuel, fuel-end, fuel-enough, fuel-turn}

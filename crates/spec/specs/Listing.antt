@@ -7,7 +7,6 @@ use Rattle.spec.specs.declared.Size.{Size}
 use Rattle.spec.specs.declared.FeedSize.{FeedSize}
 use Rattle.spec.specs.declared.Step.{Step}
 use Rattle.spec.specs.declared.Decision.{Decision}
-use Rattle.spec.specs.declared.Decision.TheVariants as Decision
 use Rattle.spec.specs.Basics.{if, from}
 use Rattle.spec.specs.Answers.{ok}
 use Rattle.spec.specs.Sizes.{pixels, blocks}

@@ -11,7 +11,6 @@ use Rattle.spec.specs.Basics.{if}
 use Rattle.spec.specs.Answers.{ok, bad_row}
 use Rattle.spec.proofs.Lists.{by-test}
 use Rattle.sprite.specs.declared.heads.RowHead.{RowHead}
-use Rattle.sprite.specs.declared.heads.RowHead.TheVariants as RowHead
 use Rattle.sprite.specs.Frames.{Shade, Reading, reading, Ended, ended, follow, code_at, count_at, blank_code, data_code}
 use Rattle.sprite.specs.Frames.{row_at, row_head_says, row, data_turn, row_turn, marker, rows_from}
 use Rattle.sprite.proofs.Gathering.{Onward, stops, goes, gather-end, gather-turn}

@@ -11,7 +11,6 @@ use Rattle.spec.specs.Answers.{ok, bad_segment}
 use Rattle.spec.proofs.Lists.{by-test}
 use Rattle.spec.proofs.Parts.{length_part}
 use Rattle.sprite.specs.declared.heads.Segment.{Segment}
-use Rattle.sprite.specs.declared.heads.Segment.TheVariants as Segment
 use Rattle.sprite.specs.Frames.{Shade, colour, Reading, reading, ended, follow, code_at, count_at, run_code, copy_code}
 use Rattle.sprite.specs.Frames.{segment_bytes, segment_at, segment_says, shades, segment_turn, row_from}
 use Rattle.sprite.proofs.Gathering.{Onward, stops, goes, gather-end, gather-turn}

@@ -1,7 +1,7 @@
 -- Proved examples of symbols: one table and one statement. `seven` are a valid frame and one refusal of each of 15 to 20; `further` pin what
 -- those leave free. Bytes are hex; pictures are 4x4 unless said otherwise. Assumes nothing.
 use Rattle.std.specs.Prelude.{ℕ, ◌≡◌, refl, List, [], ◌∷◌, ◌++◌, Bool, true, ◌&&◌, ℤ, pos, negsuc}
-use Rattle.spec.specs.Basics.{if, fuelled, from, same}
+use Rattle.spec.specs.Basics.{if, fuelled, same}
 use Rattle.spec.specs.Answers.{answer, checked}
 use Rattle.spec.specs.Sizes as Sizes
 use Rattle.spec.specs.Rows.{size, of, same_answer}

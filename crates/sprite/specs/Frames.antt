@@ -4,9 +4,7 @@ use Rattle.std.specs.Prelude.{ℕ, suc, ◌+◌, ◌-◌, ◌%◌, List, [], ◌
 use Rattle.spec.specs.Basics.{if, fuelled, part}
 use Rattle.spec.specs.Answers.{ok, bad_row, bad_segment, no_end_marker}
 use Rattle.sprite.specs.declared.heads.Segment.{Segment}
-use Rattle.sprite.specs.declared.heads.Segment.TheVariants as Segment
 use Rattle.sprite.specs.declared.heads.RowHead.{RowHead}
-use Rattle.sprite.specs.declared.heads.RowHead.TheVariants as RowHead
 use Rattle.sprite.specs.Files.{frame_bytes, height_at, width_at, offset_of, frame_fault}
 
 -- What a frame has for a pixel: background, or a colour of the palette

@@ -17,7 +17,7 @@ use Rattle.spec.specs.Answers.{ok, bad_size, bad_length, bad_count, answer, chec
 use Rattle.spec.specs.Sizes.{allowed, blocks, same_size, fault}
 use Rattle.spec.specs.Chunks.{Outcome, refused, accepted, decode, verdict}
 use Rattle.spec.specs.Maps.{MapLeft, fresh_map, count_map}
-use Rattle.spec.specs.Boards.{Board, board, Left, exact, Exact, recounted, effect, read, in_turn}
+use Rattle.spec.specs.Boards.{Board, Left, exact, Exact, recounted, effect, read, in_turn}
 use Rattle.spec.specs.Writing.{Wrote, emit, write}
 use Rattle.spec.specs.Feeds as Feeds
 use Rattle.spec.specs.Feeds.{Ending, ended, Next, chunk, end, next_at, chunks_from, SizeNumbers, failing, both, size_numbers, feed_size_by, feed_size}

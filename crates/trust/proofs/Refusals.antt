@@ -8,7 +8,7 @@ use lib.ListN.{length}
 use Rattle.spec.specs.declared.Answer.{Answer}
 use Rattle.spec.specs.declared.Size.{Size}
 use Rattle.spec.specs.declared.Step.{Step}
-use Rattle.spec.specs.Answers.{ok, bad_varint, feed_cut, answer}
+use Rattle.spec.specs.Answers.{ok, bad_varint, feed_cut}
 use Rattle.spec.specs.Sizes.{blocks, same_size, fault}
 use Rattle.spec.specs.Maps.{MapLeft, map_fault, fresh_map}
 use Rattle.spec.specs.Chunks.{Outcome, refused, accepted, decode, verdict}

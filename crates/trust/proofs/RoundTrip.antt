@@ -14,7 +14,7 @@ use Rattle.spec.specs.Pictures.{Origin, given, held, shown, block_at, paint}
 use Rattle.spec.specs.Maps.{entry, remap, unsettled}
 use Rattle.spec.specs.Flags.{number, digits}
 use Rattle.spec.specs.Chunks.{State, start, accepted, resume, loop, decode, verdict}
-use Rattle.spec.specs.Boards.{board, left, effect, read}
+use Rattle.spec.specs.Boards.{board, left, effect}
 use Rattle.spec.specs.Writing.{plain, opcode_for, joins, alike, max_run, opcodes, Writable, keeps, gives, encode, max_length, difference, differences}
 use Rattle.spec.proofs.Lists.{by-test, if-apply, length_from, get_or-rule, map-congr, every-all, same_lists}
 use Rattle.spec.proofs.Parts.{part_of}

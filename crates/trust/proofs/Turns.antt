@@ -12,7 +12,7 @@ use borrow.Author.Tests.{leb-true}
 use Rattle.spec.specs.Basics.{if, from, part}
 use Rattle.spec.specs.Pictures.{Origin, given, held}
 use Rattle.spec.specs.Flags.{flag_bytes}
-use Rattle.spec.specs.Chunks.{Kind, skip, fill, store, kind_of, counted, times, reach, once, each, names, runs, body, upper_at, count_at, body_at, opcode, fills, blocks_by, extend, stored, State, Table, go, act, step}
+use Rattle.spec.specs.Chunks.{Kind, skip, fill, store, kind_of, counted, times, reach, once, each, names, runs, upper_at, count_at, body_at, opcode, fills, blocks_by, extend, stored, State, Table, go, act, step}
 use Rattle.spec.specs.Writing.{colours, entries, entry_of, tabled, single, counting, plain, opcode_for}
 use Rattle.spec.proofs.Lists.{by-test}
 use Rattle.spec.proofs.Parts.{part_of}

@@ -1,7 +1,6 @@
 use mathlib.Core.Path.{◌∙◌}
 use native.Mathlib.Omega.{arith}
-use borrow.Author.Rules.{rules}
-use Rattle.blocks.proofs.Rowwise.{few, span, rows-block}
+use Rattle.blocks.proofs.Rowwise.{span, rows-block}
 use Rattle.blocks.proofs.block_at.Goals as goal
 
 pub rows_at-requires-clause-w_in_bounds : goal.rows_at-requires-clause-w_in_bounds

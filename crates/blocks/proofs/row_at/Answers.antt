@@ -1,4 +1,3 @@
-use borrow.Author.Rules.{rules}
 use Rattle.blocks.specs.Blocks.{row}
 use Rattle.blocks.proofs.row_at.Goals as goal
 

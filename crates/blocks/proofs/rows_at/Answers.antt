@@ -1,4 +1,3 @@
-use borrow.Author.Rules.{rules}
 use Rattle.blocks.specs.Blocks.{pixels, rows}
 use Rattle.blocks.proofs.rows_at.Goals as goal
 

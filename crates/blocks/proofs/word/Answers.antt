@@ -1,6 +1,5 @@
 use mathlib.Core.Path.{refl}
 use native.Mathlib.Omega.{arith}
-use borrow.Author.Rules.{rules}
 use Rattle.blocks.proofs.Rowwise.{row_of-word}
 use Rattle.blocks.proofs.word.Goals as goal
 

@@ -1,5 +1,4 @@
 use mathlib.Core.Path.{sym, ◌∙◌}
-use borrow.Author.Rules.{rules}
 use Rattle.spec.proofs.Maps.{count-made, count-refused}
 use Rattle.board_map.proofs.count_unsettled.Goals as goal
 

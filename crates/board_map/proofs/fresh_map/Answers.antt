@@ -1,6 +1,5 @@
 use mathlib.Core.Path.{sym, ap, ◌∙◌}
 use Prim.Native.Nat.{ℕ}
-use borrow.Author.Rules.{rules}
 use Rattle.spec.specs.Maps.{record_of}
 use Rattle.spec.proofs.Maps.{map-below-mark, fresh-made, fresh-refused}
 use Rattle.board_map.proofs.fresh_map.Goals as goal

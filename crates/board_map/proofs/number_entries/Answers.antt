@@ -1,12 +1,8 @@
-use Prim.Native.Nat.{◌≤◌, ◌<◌, ◌-◌}
-use mathlib.Core.Path.{◌≡◌}
+use Prim.Native.Nat.{◌<◌}
 use native.Mathlib.Numerals.{add-one}
 use native.Mathlib.Omega.{arith}
-use lib.ListN.{length, take, length-set}
-use lib.Seq.{take-suc-set, take_all}
-use borrow.Author.Rules.{rules}
-use Rattle.spec.specs.Maps.{fresh}
-use Rattle.spec.proofs.Cases.{cases}
+use lib.ListN.{length, length-set}
+use lib.Seq.{take-suc-set}
 use Rattle.spec.proofs.Lists.{from-zero-more}
 use Rattle.board_map.proofs.number_entries.Goals as goal
 

@@ -1,14 +1,12 @@
-use Prim.Native.Nat.{ℕ, ◌≤◌, ◌<◌, ◌-◌, ◌+◌}
+use Prim.Native.Nat.{ℕ, ◌≤◌, ◌<◌, ◌+◌}
 use mathlib.Core.Path.{◌≡◌}
 use native.Mathlib.Numerals.{add-one}
 use native.Mathlib.Omega.{arith}
 use lib.Dec.{eqb}
-use lib.ListN.{length, drop, get_or, drop_of_length-le}
+use lib.ListN.{length, drop, get_or}
 use lib.Seq.{drop-cons}
-use borrow.Author.Rules.{rules}
 use Rattle.spec.specs.Basics.{if}
 use Rattle.spec.specs.Maps.{settled, unsettled}
-use Rattle.spec.proofs.Cases.{cases}
 use Rattle.spec.proofs.Lists.{none-or-one}
 use Rattle.board_map.proofs.unsettled_entries.Goals as goal
 

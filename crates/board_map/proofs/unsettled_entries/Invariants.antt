@@ -1,15 +1,7 @@
-use Prim.Native.Nat.{ℕ, ◌≤◌, ◌<◌, ◌-◌, ◌+◌}
+use Prim.Native.Nat.{◌≤◌, ◌-◌, ◌+◌}
 use mathlib.Core.Path.{◌≡◌}
-use native.Mathlib.Numerals.{add-one}
-use native.Mathlib.Omega.{arith}
-use lib.Dec.{eqb}
-use lib.ListN.{length, drop, get_or, drop_of_length-le}
-use lib.Seq.{drop-cons}
-use borrow.Author.Rules.{rules}
-use Rattle.spec.specs.Basics.{if}
-use Rattle.spec.specs.Maps.{settled, unsettled}
-use Rattle.spec.proofs.Cases.{cases}
-use Rattle.spec.proofs.Lists.{none-or-one}
+use lib.ListN.{length, drop}
+use Rattle.spec.specs.Maps.{unsettled}
 use Rattle.board_map.proofs.unsettled_entries.Given as goal
 
 abbrev pub invariant-loop-k : goal.invariant-loop-k

@@ -7,7 +7,6 @@ use Rattle.spec.specs.Listing.{decide}
 use Rattle.spec.proofs.Cases.{cases}
 use Rattle.spec.proofs.Limits.{allowed-size}
 use Rattle.feed.proofs.Opening.{size-fine}
-use borrow.Author.Rules.{rules}
 use Rattle.feed.proofs.decide.Goals as goal
 
 pub returns-then-feed-gt-MAX_FEED : goal.returns-then-feed-gt-MAX_FEED

@@ -1,6 +1,5 @@
 use Rattle.spec.specs.Basics.{if}
 use Rattle.spec.specs.Listing.{step_line}
-use borrow.Author.Rules.{rules}
 use Rattle.listing.proofs.step_line.Goals as goal
 
 pub returns-then-step-clause-text_value : goal.returns-then-step-clause-text_value

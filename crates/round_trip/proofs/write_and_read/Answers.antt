@@ -4,7 +4,6 @@ use Rattle.spec.specs.declared.Count.{Count}
 use Rattle.trust.proofs.Demand3.{counts-unsettled}
 use Rattle.round_trip.specs.Trip.{lent_board}
 use Rattle.round_trip.proofs.Trips.{told, trip-refused, trip-written, written-long, trip-bad-board, fine}
-use borrow.Author.Rules.{rules}
 use Rattle.round_trip.proofs.write_and_read.Goals as goal
 
 pub returns-then-number-ne-OK-clause-value : goal.returns-then-number-ne-OK-clause-value

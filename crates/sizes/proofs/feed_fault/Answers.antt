@@ -1,5 +1,4 @@
 use mathlib.Core.Path.{sym, ◌∙◌}
-use borrow.Author.Rules.{rules}
 use Rattle.spec.proofs.Limits.{fault-size, fault-length}
 use Rattle.sizes.proofs.feed_fault.Goals as goal
 

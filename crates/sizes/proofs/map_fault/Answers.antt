@@ -1,7 +1,6 @@
 use mathlib.Core.Path.{sym, ◌∙◌}
 use native.Mathlib.Omega.{arith}
 use Rattle.spec.proofs.Limits.{allowed-size, fault-size, fault-allowed}
-use borrow.Author.Rules.{rules}
 use Rattle.sizes.proofs.map_fault.Goals as goal
 
 pub overflow_mul-size : goal.overflow_mul-size

@@ -2,7 +2,6 @@ use mathlib.Core.Path.{sym, ◌∙◌}
 use native.Mathlib.Omega.{arith}
 use borrow.Author.Tests.{eq-eqb, ne_eqb}
 use Rattle.spec.proofs.Limits.{allowed-size, fault-size, fault-length, fault-allowed}
-use borrow.Author.Rules.{rules}
 use Rattle.sizes.proofs.pictures_fault.Goals as goal
 
 pub overflow_mul-bytes : goal.overflow_mul-bytes

@@ -3,7 +3,6 @@ use native.Mathlib.Omega.{arith}
 use Rattle.spec.specs.Writing.{Wrote}
 use Rattle.blocks.proofs.Rowwise.{at_most}
 use Rattle.smc_writer.proofs.Emitting.{write-refused, old-canvas, new-canvas, write-emits}
-use borrow.Author.Rules.{rules}
 use Rattle.smc_writer.proofs.write_chunk.Goals as goal
 
 pub returns-then-number-ne-OK-clause-value : goal.returns-then-number-ne-OK-clause-value

@@ -1,5 +1,3 @@
-use mathlib.Core.Path.{sym, ◌∙◌}
-use borrow.Author.Rules.{rules}
 use Rattle.sprite.proofs.Answering.{symbol-refused, exact-picture, frame-kept, frame-shown}
 use Rattle.sprite.proofs.Positions.{narrow}
 use Rattle.sprite.proofs.paint_symbol.Goals as goal

@@ -1,6 +1,5 @@
 use mathlib.Core.Path.{sym, ◌∙◌}
 use native.Mathlib.Omega.{arith}
-use borrow.Author.Rules.{rules}
 use borrow.Author.Tests.{eq-eqb, ne_eqb}
 use Rattle.spec.proofs.Limits.{allowed-size, fault-size, fault-length, fault-none}
 use Rattle.sprite.proofs.picture_fault.Goals as goal

@@ -1,6 +1,5 @@
 use Rattle.spec.specs.Feeds.{size_numbers, feed_size}
 use Rattle.spec.proofs.Varints.{found_number, varint-got}
-use borrow.Author.Rules.{rules}
 use Rattle.feed.proofs.numbers.feed_size.Goals as goal
 
 pub size_by-requires : goal.size_by-requires

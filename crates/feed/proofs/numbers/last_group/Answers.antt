@@ -1,6 +1,5 @@
 use Rattle.spec.specs.Basics.{if}
 use Rattle.spec.proofs.Cases.{cases}
-use borrow.Author.Rules.{rules}
 use Rattle.feed.proofs.numbers.last_group.Goals as goal
 
 pub returns-then-is_padding : goal.returns-then-is_padding

@@ -1,5 +1,4 @@
 use Rattle.spec.specs.Basics.{if}
-use borrow.Author.Rules.{rules}
 use Rattle.feed.proofs.numbers.size_by.Goals as goal
 
 pub returns-then-is_allowed : goal.returns-then-is_allowed

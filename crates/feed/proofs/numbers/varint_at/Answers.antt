@@ -1,8 +1,7 @@
 use mathlib.Core.Path.{sym, ap, ◌∙◌}
 use native.Mathlib.Omega.{arith}
 use Rattle.spec.specs.Feeds.{varint_says}
-use Rattle.feed.proofs.Grouping.{Grouping, grouping-none, scale_small, product-fits, sum_fits, grouping-cut, grouping-last, grouping-more, grouping-end}
-use borrow.Author.Rules.{rules}
+use Rattle.feed.proofs.Grouping.{grouping-none, grouping-cut, grouping-last, grouping-more, grouping-end}
 use Rattle.feed.proofs.numbers.varint_at.Goals as goal
 
 pub loop-more-init : goal.loop-more-init

@@ -1,10 +1,7 @@
-use Prim.Native.Nat.{◌-◌}
-use mathlib.Core.Path.{◌≡◌, refl, sym, ap, ◌∙◌}
+use mathlib.Core.Path.{ap, ◌∙◌}
 use native.Mathlib.Omega.{arith}
-use lib.ListN.{length}
-use Rattle.spec.specs.Sizes.{blocks}
-use Rattle.spec.specs.Boards.{Board, board}
-use Rattle.feed.proofs.Walking.{Walking, walking-none, counted-more, counted_same, step-onward, accepted-fits, walking_on, walking-over, walking-left}
+use Rattle.spec.specs.Boards.{Board}
+use Rattle.feed.proofs.Walking.{counted-more, counted_same, step-onward, walking_on, walking-over, walking-left}
 use Rattle.feed.proofs.walk.read_chunks.Goals as goal
 
 pub loop-at-smaller-then-answer-eq-OK : goal.loop-at-smaller-then-answer-eq-OK

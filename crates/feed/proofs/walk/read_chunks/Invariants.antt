@@ -1,10 +1,8 @@
 use Prim.Native.Nat.{◌-◌}
-use mathlib.Core.Path.{◌≡◌, refl, sym, ap, ◌∙◌}
-use native.Mathlib.Omega.{arith}
+use mathlib.Core.Path.{◌≡◌}
 use lib.ListN.{length}
-use Rattle.spec.specs.Sizes.{blocks}
-use Rattle.spec.specs.Boards.{Board, board}
-use Rattle.feed.proofs.Walking.{Walking, walking-none, counted-more, counted_same, step-onward, accepted-fits, walking_on, walking-over, walking-left}
+use Rattle.spec.specs.Boards.{board}
+use Rattle.feed.proofs.Walking.{Walking}
 use Rattle.feed.proofs.walk.read_chunks.Given as goal
 
 abbrev pub invariant-loop-at : goal.invariant-loop-at

@@ -2,7 +2,6 @@ use mathlib.Core.Path.{refl, ap, ◌∙◌}
 use Rattle.spec.specs.Boards.{board}
 use Rattle.spec.specs.Feeds.{no_chunk}
 use Rattle.feed.proofs.Opening.{board-entries, step-refused, step-goes}
-use borrow.Author.Rules.{rules}
 use Rattle.feed.proofs.walk.step.Goals as goal
 
 pub returns-then-fault-ne-OK-clause-value : goal.returns-then-fault-ne-OK-clause-value

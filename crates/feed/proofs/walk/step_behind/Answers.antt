@@ -4,7 +4,6 @@ use mathlib.Core.Bool.{true}
 use native.Mathlib.Omega.{arith}
 use Rattle.spec.specs.Feeds.{no_chunk}
 use Rattle.feed.proofs.Standing.{none-stands, bad-stands, number-got, short-stands, chunk-stands}
-use borrow.Author.Rules.{rules}
 use Rattle.feed.proofs.walk.step_behind.Goals as goal
 
 pub returns-then-at-feed-clause-value : goal.returns-then-at-feed-clause-value

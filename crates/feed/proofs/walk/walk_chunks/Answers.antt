@@ -3,7 +3,6 @@ use lib.ListN.{length}
 use Rattle.spec.specs.Boards.{board}
 use Rattle.spec.specs.Feeds.{chunks_from}
 use Rattle.feed.proofs.Opening.{chunks-refused, chunks-read}
-use borrow.Author.Rules.{rules}
 use Rattle.feed.proofs.walk.walk_chunks.Goals as goal
 
 pub returns-then-fault-ne-OK-clause-value : goal.returns-then-fault-ne-OK-clause-value

@@ -2,7 +2,6 @@ use mathlib.Core.Path.{refl, sym, ap, ◌∙◌}
 use Rattle.spec.specs.declared.Tally.{Tally}
 use Rattle.spec.specs.Boards.{board}
 use Rattle.feed.proofs.Opening.{opens, feed-entries}
-use borrow.Author.Rules.{rules}
 use Rattle.feed.proofs.walk.walk_feed.Goals as goal
 
 pub returns-then-refusal-ne-OK-clause-answer_value : goal.returns-then-refusal-ne-OK-clause-answer_value

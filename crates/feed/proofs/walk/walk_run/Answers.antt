@@ -1,7 +1,6 @@
 use Rattle.spec.specs.Boards.{board}
 use Rattle.spec.specs.Feeds.{walk_run}
 use Rattle.feed.proofs.Opening.{board-entries}
-use borrow.Author.Rules.{rules}
 use Rattle.feed.proofs.walk.walk_run.Goals as goal
 
 pub walk_chunks-requires : goal.walk_chunks-requires

@@ -1,7 +1,5 @@
 use mathlib.Core.Path.{ap, ◌∙◌}
-use native.Mathlib.Omega.{arith}
 use Rattle.spec.specs.Listing.{higher_digits, decimal}
-use borrow.Author.Rules.{rules}
 use Rattle.listing.proofs.text.put_decimal.Goals as goal
 
 pub returns-clause-text_after : goal.returns-clause-text_after

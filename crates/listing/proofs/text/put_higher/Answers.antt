@@ -1,5 +1,5 @@
 use native.Mathlib.Omega.{arith}
-use Rattle.listing.proofs.Texts.{Spelling, spelling-none, spelling-room, spelling-more, spelling-end}
+use Rattle.listing.proofs.Texts.{spelling-none, spelling-more, spelling-end}
 use Rattle.listing.proofs.text.put_higher.Goals as goal
 
 pub loop-left-init : goal.loop-left-init

@@ -1,5 +1,4 @@
-use native.Mathlib.Omega.{arith}
-use Rattle.listing.proofs.Texts.{Spelling, spelling-none, spelling-room, spelling-more, spelling-end}
+use Rattle.listing.proofs.Texts.{Spelling}
 use Rattle.listing.proofs.text.put_higher.Given as goal
 
 abbrev pub invariant-loop-left : goal.invariant-loop-left

@@ -1,5 +1,4 @@
-use native.Mathlib.Omega.{arith}
-use Rattle.listing.proofs.Texts.{Wording, wording-none, wording-more, wording-end}
+use Rattle.listing.proofs.Texts.{Wording}
 use Rattle.listing.proofs.text.put_word.Given as goal
 
 abbrev pub invariant-loop-left : goal.invariant-loop-left

@@ -1,4 +1,4 @@
-use Rattle.std.proofs.Common.{arith, rules}
+use Rattle.std.proofs.Common.{arith}
 use Rattle.smc.proofs.Factors.{factor-at, product_small, pair_row}
 use Rattle.smc.proofs.flags.pair_row.Goals as goal
 

@@ -1,4 +1,4 @@
-use Rattle.std.proofs.Common.{[], ◌∷◌, arith, rules}
+use Rattle.std.proofs.Common.{[], ◌∷◌, arith}
 use Rattle.blocks.specs.Blocks.{pixels}
 use Rattle.smc.proofs.Flagged.{pair-rows}
 use Rattle.smc.proofs.flags.pair_rows.Goals as goal

@@ -1,9 +1,9 @@
-use Rattle.std.proofs.Common.{ℕ, List, ap, ◌∙◌, arith, rules}
+use Rattle.std.proofs.Common.{ℕ, List, ap, ◌∙◌, arith}
 use Rattle.spec.specs.Basics.{if}
 use Rattle.spec.specs.Pictures.{put_block}
 use Rattle.spec.specs.Flags.{flags, chosen}
 use Rattle.spec.proofs.Octets.{octet-step}
-use Rattle.blocks.proofs.Rowwise.{few, span}
+use Rattle.blocks.proofs.Rowwise.{span}
 use Rattle.smc.proofs.RowsPut.{four, put-rows}
 use Rattle.smc.proofs.flags.put_octet.Goals as goal
 

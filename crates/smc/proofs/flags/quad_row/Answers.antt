@@ -1,4 +1,4 @@
-use Rattle.std.proofs.Common.{◌∙◌, arith, rules}
+use Rattle.std.proofs.Common.{◌∙◌, arith}
 use Rattle.smc.proofs.Flagged.{quad-row}
 use Rattle.smc.proofs.flags.quad_row.Goals as goal
 

@@ -1,9 +1,5 @@
-use Rattle.std.proofs.Common.{length, ap, ◌∙◌, arith}
-use Rattle.spec.proofs.Parts.{length_part}
-use Rattle.smc.specs.Tables.{colours}
-use Rattle.smc.proofs.Entering.{octets, entry_whole, entry_first, entry-within, entry-stored, entry-room-left, entry-inside, entry-tabled}
-use Rattle.smc.proofs.Opcodes.{count-within}
-use Rattle.smc.proofs.Runwise.{length-put_each, length-mark_each}
+use Rattle.std.proofs.Common.{arith}
+use Rattle.smc.proofs.Entering.{octets, entry-stored, entry-inside, entry-tabled}
 use Rattle.smc.proofs.paint.octet_op.Goals as goal
 
 pub colours_at-colours-requires-clause-w_in_bounds_2 : goal.colours_at-colours-requires-clause-w_in_bounds_2

@@ -1,5 +1,5 @@
-use Rattle.std.proofs.Common.{◌-◌, ◌*◌, ◌<◌, length, sym, ◌∙◌, arith, rules}
-use Rattle.smc.proofs.Going.{Going, begins, opens, continues, less, paints}
+use Rattle.std.proofs.Common.{◌*◌, ◌<◌, arith}
+use Rattle.smc.proofs.Going.{begins, opens, continues, less, paints}
 use Rattle.smc.proofs.paint.paint.Goals as goal
 
 pub loop-k-init : goal.loop-k-init

@@ -1,5 +1,5 @@
-use Rattle.std.proofs.Common.{◌-◌, ◌*◌, ◌<◌, length, sym, ◌∙◌, arith, rules}
-use Rattle.smc.proofs.Going.{Going, begins, opens, continues, less, paints}
+use Rattle.std.proofs.Common.{◌-◌, length}
+use Rattle.smc.proofs.Going.{Going}
 use Rattle.smc.proofs.paint.paint.Given as goal
 
 abbrev pub invariant-loop-k : goal.invariant-loop-k

@@ -1,8 +1,7 @@
-use Rattle.std.proofs.Common.{length, sym, refl, ap, ◌∙◌, one-mul, arith}
+use Rattle.std.proofs.Common.{sym, refl, one-mul, arith}
 use Rattle.spec.specs.Chunks.{skip, fill, copy}
 use Rattle.smc.proofs.Making.{ran-skip, ran-copy, ran-fill}
-use Rattle.smc.proofs.Opcodes.{count-within, facts-two, kind-two}
-use Rattle.smc.proofs.Runwise.{length-put_each, length-mark_each}
+use Rattle.smc.proofs.Opcodes.{facts-two, kind-two}
 use Rattle.smc.proofs.paint.plain_op.Goals as goal
 
 pub returns-then-lead-ge6 : goal.returns-then-lead-ge6

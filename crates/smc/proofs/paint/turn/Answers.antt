@@ -1,4 +1,4 @@
-use Rattle.std.proofs.Common.{◌≢◌, ap, arith, rules}
+use Rattle.std.proofs.Common.{◌≢◌, ap, arith}
 use Rattle.spec.specs.Chunks.{Kind, stores}
 use Rattle.smc.proofs.Opcodes.{kind-is, of_either, stores-low}
 use Rattle.smc.proofs.Turning.{turned_plain, turned-pairs, turned-quads, turned-octets}

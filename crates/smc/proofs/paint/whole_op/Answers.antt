@@ -1,7 +1,5 @@
-use Rattle.std.proofs.Common.{length, ap, ◌∙◌, arith}
 use Rattle.smc.proofs.Making.{ran-whole}
-use Rattle.smc.proofs.Opcodes.{count-within, is_whole, facts-of, kind-of}
-use Rattle.smc.proofs.Runwise.{length-put_each, length-mark_each}
+use Rattle.smc.proofs.Opcodes.{is_whole, kind-of}
 use Rattle.smc.proofs.paint.whole_op.Goals as goal
 
 pub returns : goal.returns

@@ -1,6 +1,6 @@
-use Rattle.std.proofs.Common.{arith, rules}
+use Rattle.std.proofs.Common.{arith}
 use Rattle.blocks.specs.Blocks.{pixels}
-use Rattle.blocks.proofs.Rowwise.{few, span}
+use Rattle.blocks.proofs.Rowwise.{span}
 use Rattle.smc.proofs.RowsPut.{four-row_of, put-rows}
 use Rattle.smc.proofs.put.put_block.Goals as goal
 

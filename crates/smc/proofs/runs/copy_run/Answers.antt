@@ -1,5 +1,5 @@
-use Rattle.std.proofs.Common.{◌-◌, sym, refl, ◌∙◌, arith, rules}
-use Rattle.smc.proofs.Runwise.{Copying, running_none, running_more, running-all}
+use Rattle.std.proofs.Common.{refl, arith}
+use Rattle.smc.proofs.Runwise.{running_none, running_more}
 use Rattle.smc.proofs.runs.copy_run.Goals as goal
 
 pub loop-i-init : goal.loop-i-init

@@ -1,5 +1,5 @@
-use Rattle.std.proofs.Common.{◌-◌, sym, refl, ◌∙◌, arith, rules}
-use Rattle.smc.proofs.Runwise.{Copying, running_none, running_more, running-all}
+use Rattle.std.proofs.Common.{◌-◌}
+use Rattle.smc.proofs.Runwise.{Copying}
 use Rattle.smc.proofs.runs.copy_run.Given as goal
 
 abbrev pub invariant-loop-i : goal.invariant-loop-i

@@ -1,5 +1,5 @@
-use Rattle.std.proofs.Common.{◌-◌, replicate, sym, refl, ◌∙◌, arith, rules}
-use Rattle.smc.proofs.Runwise.{fill-pixels, Putting, running_none, running_more, running-all}
+use Rattle.std.proofs.Common.{refl, arith}
+use Rattle.smc.proofs.Runwise.{fill-pixels, running_none, running_more}
 use Rattle.smc.proofs.runs.fill_run.Goals as goal
 
 pub loop-i-init : goal.loop-i-init

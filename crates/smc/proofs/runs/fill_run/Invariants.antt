@@ -1,5 +1,5 @@
-use Rattle.std.proofs.Common.{◌-◌, replicate, sym, refl, ◌∙◌, arith, rules}
-use Rattle.smc.proofs.Runwise.{fill-pixels, Putting, running_none, running_more, running-all}
+use Rattle.std.proofs.Common.{◌-◌, replicate}
+use Rattle.smc.proofs.Runwise.{Putting}
 use Rattle.smc.proofs.runs.fill_run.Given as goal
 
 abbrev pub invariant-loop-i : goal.invariant-loop-i

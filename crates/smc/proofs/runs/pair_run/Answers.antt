@@ -1,8 +1,8 @@
-use Rattle.std.proofs.Common.{ℕ, ◌+◌, ◌-◌, ◌*◌, List, [], ◌∷◌, get_or, sym, ap, ◌∙◌, arith, rules}
+use Rattle.std.proofs.Common.{ℕ, ◌+◌, ◌*◌, List, [], ◌∷◌, get_or, ap, ◌∙◌, arith}
 use Rattle.spec.specs.Basics.{part}
 use Rattle.spec.specs.Flags.{flags, chosen}
 use Rattle.smc.proofs.Flagged.{two_bytes, two-colours}
-use Rattle.smc.proofs.Runwise.{Putting, running_none, running_more, running-all}
+use Rattle.smc.proofs.Runwise.{running_none, running_more}
 use Rattle.smc.proofs.runs.pair_run.Goals as goal
 
 pub loop-i-init : goal.loop-i-init

@@ -1,8 +1,7 @@
-use Rattle.std.proofs.Common.{ℕ, ◌+◌, ◌-◌, ◌*◌, List, [], ◌∷◌, get_or, sym, ap, ◌∙◌, arith, rules}
+use Rattle.std.proofs.Common.{◌+◌, ◌-◌, ◌*◌}
 use Rattle.spec.specs.Basics.{part}
 use Rattle.spec.specs.Flags.{flags, chosen}
-use Rattle.smc.proofs.Flagged.{two_bytes, two-colours}
-use Rattle.smc.proofs.Runwise.{Putting, running_none, running_more, running-all}
+use Rattle.smc.proofs.Runwise.{Putting}
 use Rattle.smc.proofs.runs.pair_run.Given as goal
 
 abbrev pub invariant-loop-i : goal.invariant-loop-i

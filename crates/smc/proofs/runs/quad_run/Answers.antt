@@ -1,8 +1,7 @@
-use Rattle.std.proofs.Common.{ℕ, ◌+◌, ◌-◌, ◌*◌, List, sym, ap, ◌∙◌, arith, rules}
-use Rattle.spec.specs.Basics.{part}
+use Rattle.std.proofs.Common.{ℕ, ◌+◌, ◌*◌, List, ap, ◌∙◌, arith}
 use Rattle.spec.specs.Flags.{flags, chosen}
 use Rattle.smc.proofs.Flagged.{four_bytes}
-use Rattle.smc.proofs.Runwise.{Putting, running_none, running_more, running-all}
+use Rattle.smc.proofs.Runwise.{running_none, running_more}
 use Rattle.smc.proofs.runs.quad_run.Goals as goal
 
 pub loop-i-init : goal.loop-i-init

@@ -1,8 +1,7 @@
-use Rattle.std.proofs.Common.{ℕ, ◌+◌, ◌-◌, ◌*◌, List, sym, ap, ◌∙◌, arith, rules}
+use Rattle.std.proofs.Common.{◌+◌, ◌-◌, ◌*◌}
 use Rattle.spec.specs.Basics.{part}
 use Rattle.spec.specs.Flags.{flags, chosen}
-use Rattle.smc.proofs.Flagged.{four_bytes}
-use Rattle.smc.proofs.Runwise.{Putting, running_none, running_more, running-all}
+use Rattle.smc.proofs.Runwise.{Putting}
 use Rattle.smc.proofs.runs.quad_run.Given as goal
 
 abbrev pub invariant-loop-i : goal.invariant-loop-i

@@ -1,7 +1,6 @@
-use Rattle.std.proofs.Common.{◌+◌, ◌-◌, ◌*◌, sym, ◌∙◌, arith, rules}
-use Rattle.spec.specs.Basics.{part}
+use Rattle.std.proofs.Common.{◌∙◌, arith}
 use Rattle.blocks.proofs.Rowwise.{rows-part}
-use Rattle.smc.proofs.Runwise.{Putting, running_none, running_more, running-all}
+use Rattle.smc.proofs.Runwise.{running_none, running_more}
 use Rattle.smc.proofs.runs.whole_run.Goals as goal
 
 pub loop-i-init : goal.loop-i-init

@@ -1,7 +1,6 @@
-use Rattle.std.proofs.Common.{◌+◌, ◌-◌, ◌*◌, sym, ◌∙◌, arith, rules}
+use Rattle.std.proofs.Common.{◌+◌, ◌-◌, ◌*◌}
 use Rattle.spec.specs.Basics.{part}
-use Rattle.blocks.proofs.Rowwise.{rows-part}
-use Rattle.smc.proofs.Runwise.{Putting, running_none, running_more, running-all}
+use Rattle.smc.proofs.Runwise.{Putting}
 use Rattle.smc.proofs.runs.whole_run.Given as goal
 
 abbrev pub invariant-loop-i : goal.invariant-loop-i

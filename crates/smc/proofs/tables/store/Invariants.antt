@@ -1,9 +1,6 @@
-use Rattle.std.proofs.Common.{◌≡◌, ◌+◌, ◌-◌, ◌*◌, ◌≤◌, length, refl, arith, length-set, rules}
+use Rattle.std.proofs.Common.{◌≡◌, ◌+◌, ◌-◌, ◌*◌, ◌≤◌, length}
 use lib.Seq.{sets}
 use Rattle.spec.specs.Basics.{part}
-use Rattle.spec.specs.Chunks.{capacity}
-use Rattle.spec.proofs.Cells.{entry-room}
-use Rattle.spec.proofs.Parts.{sets-step}
 use Rattle.smc.proofs.tables.store.Given as goal
 
 abbrev pub invariant-loop-i : goal.invariant-loop-i

@@ -1,7 +1,6 @@
 use Rattle.smc_check.proofs.Behind.{ends-short, ends-differs}
-use mathlib.Core.Path.{sym, ◌∙◌}
+use mathlib.Core.Path.{◌∙◌}
 use native.Mathlib.Omega.{arith}
-use borrow.Author.Rules.{rules}
 use Rattle.smc_check.proofs.check.check.Goals as goal
 
 pub returns-then-len-lt4 : goal.returns-then-len-lt4

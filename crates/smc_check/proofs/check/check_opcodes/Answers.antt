@@ -1,9 +1,5 @@
-use Rattle.smc_check.proofs.Behind.{Behind, begins, few-told, told-runs, told-bad, goes-bad, goes_on_lem, ends-remain, ends-follow, ends-ok}
-use Rattle.smc_check.specs.Checking.{Spans, Times, Reaches}
-use lib.ListN.{length}
-use mathlib.Core.Path.{◌≡◌, refl, sym, ◌∙◌}
-use Prim.Native.Nat.{◌-◌}
-use borrow.Author.Rules.{rules}
+use Rattle.smc_check.proofs.Behind.{begins, told-runs, told-bad, goes-bad, goes_on_lem, ends-remain, ends-follow, ends-ok}
+use mathlib.Core.Path.{refl, sym, ◌∙◌}
 use native.Mathlib.Omega.{arith}
 use Rattle.smc_check.proofs.check.check_opcodes.Goals as goal
 

@@ -1,10 +1,8 @@
-use Rattle.smc_check.proofs.Behind.{Behind, begins, few-told, told-runs, told-bad, goes-bad, goes_on_lem, ends-remain, ends-follow, ends-ok}
+use Rattle.smc_check.proofs.Behind.{Behind}
 use Rattle.smc_check.specs.Checking.{Spans, Times, Reaches}
 use lib.ListN.{length}
-use mathlib.Core.Path.{◌≡◌, refl, sym, ◌∙◌}
+use mathlib.Core.Path.{◌≡◌}
 use Prim.Native.Nat.{◌-◌}
-use borrow.Author.Rules.{rules}
-use native.Mathlib.Omega.{arith}
 use Rattle.smc_check.proofs.check.check_opcodes.Given as goal
 
 abbrev pub invariant-loop-k : goal.invariant-loop-k

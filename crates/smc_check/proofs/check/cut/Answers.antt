@@ -1,14 +1,13 @@
 use mathlib.Core.Path.{sym, ◌∙◌}
 use native.Mathlib.Omega.{arith}
-use borrow.Author.Rules.{rules}
 use Rattle.smc_check.proofs.Leads.{body-by-bytes}
-use Rattle.smc_check.proofs.Ways.{ends-known, upper-small, blocks-small, way-cut-count, way-none-before, way-past, way-cut-once, way-empty, way-cut}
+use Rattle.smc_check.proofs.Ways.{ends-known, blocks-small, way-cut-count, way-none-before, way-past, way-cut-once, way-empty, way-cut}
 use Rattle.smc_check.proofs.check.cut.Goals as goal
 
 pub returns-then-s-at : goal.returns-then-s-at
 returns-then-s-at c = let a = c.args in
     let e = body-by-bytes a.s.now a.at _ c.wide.ensures.0 _ c.count_bytes.ensures in
-    way-cut-count _ _ _ _ _ (ends-known c.requires.ends (c.shared_slice_known-1.given _).fits) (omega arith)
+    way-cut-count _ _ _ _ _ (ends-known c.requires.ends (c.type_inv.s _).fits) (omega arith)
 
 pub lead_at-lead-requires-clause-at_in_bounds_2 : goal.lead_at-lead-requires-clause-at_in_bounds_2
 lead_at-lead-requires-clause-at_in_bounds_2 c = let a = c.args in
@@ -20,15 +19,15 @@ returns-then-k-reach_of c = let a = c.args in
     let e = body-by-bytes a.s.now a.at _ c.wide.ensures.0 _ c.count_bytes.ensures in
     way-none-before _ _ _ _ _ _ c.lead_at-lead.ensures
     (rw c.lead_at-lead.ensures.upper
-    (ends-known c.requires.ends (c.shared_slice_known-1.given _).fits))
+    (ends-known c.requires.ends (c.type_inv.s _).fits))
     (omega (arith, c.lead_at-lead.ensures.body)) _ c.reach_of.ensures (omega arith)
 
 pub overflow_mul-times_of : goal.overflow_mul-times_of
 overflow_mul-times_of c = omega (
   arith,
   blocks-small c.lead_at-lead.ensures
-      (c.shared_slice_known-1.given _).fits
-      (c.shared_slice_known-1.given _).fits c.times_of.ensures,
+      (c.type_inv.s _).fits
+      (c.type_inv.s _).fits c.times_of.ensures,
 )
 
 pub returns-then-blocks-k : goal.returns-then-blocks-k
@@ -36,7 +35,7 @@ returns-then-blocks-k c = let a = c.args in
     let e = body-by-bytes a.s.now a.at _ c.wide.ensures.0 _ c.count_bytes.ensures in
     way-past _ _ _ _ _ _ c.lead_at-lead.ensures
     (rw c.lead_at-lead.ensures.upper
-    (ends-known c.requires.ends (c.shared_slice_known-1.given _).fits))
+    (ends-known c.requires.ends (c.type_inv.s _).fits))
     (omega (arith, c.lead_at-lead.ensures.body)) _ c.reach_of.ensures (omega arith) _
     c.times_of.ensures (omega arith)
 
@@ -51,7 +50,7 @@ returns-then-s-lead c = let a = c.args in
     let o = c.once_of.ensures in
     way-cut-once _ _ _ _ _ _ c.lead_at-lead.ensures
     (rw c.lead_at-lead.ensures.upper
-    (ends-known c.requires.ends (c.shared_slice_known-1.given _).fits))
+    (ends-known c.requires.ends (c.type_inv.s _).fits))
     (omega (arith, c.lead_at-lead.ensures.body)) _ c.reach_of.ensures (omega arith) _
     c.times_of.ensures (omega arith) (omega arith)
 
@@ -67,7 +66,7 @@ returns-then-missing c = let a = c.args in
     let o = c.once_of.ensures in
     way-empty _ _ _ _ _ _ c.lead_at-lead.ensures
     (rw c.lead_at-lead.ensures.upper
-    (ends-known c.requires.ends (c.shared_slice_known-1.given _).fits))
+    (ends-known c.requires.ends (c.type_inv.s _).fits))
     (omega (arith, c.lead_at-lead.ensures.body)) _ c.reach_of.ensures (omega arith) _
     c.times_of.ensures (omega arith)
     (omega (arith, c.lead_at-lead.ensures.body)) (sym c.missing.ensures ∙ c.if-missing.true)
@@ -78,8 +77,8 @@ returns c = let a = c.args in
     let o = c.once_of.ensures in
     way-cut _ _ _ _ _ _ c.lead_at-lead.ensures
     (rw c.lead_at-lead.ensures.upper
-    (ends-known c.requires.ends (c.shared_slice_known-1.given _).fits))
+    (ends-known c.requires.ends (c.type_inv.s _).fits))
     (omega (arith, c.lead_at-lead.ensures.body)) _ c.reach_of.ensures (omega arith) _
     c.times_of.ensures (omega arith)
     (omega (arith, c.lead_at-lead.ensures.body)) (sym c.missing.ensures ∙ c.if-missing.false)
-    (c.shared_slice_known-1.given _).fits c.requires.ends.short
+    (c.type_inv.s _).fits c.requires.ends.short

@@ -1,6 +1,5 @@
 use Rattle.smc_check.proofs.Filling.{naming-bit}
 use native.Mathlib.Omega.{arith}
-use borrow.Author.Rules.{rules}
 use Rattle.smc_check.proofs.check.is_naming.Goals as goal
 
 pub returns : goal.returns

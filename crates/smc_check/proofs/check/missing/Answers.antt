@@ -4,7 +4,6 @@ use lib.ListN.{get_or}
 use Prim.Native.Nat.{◌<◌}
 use mathlib.Core.Path.{sym, ◌∙◌}
 use native.Mathlib.Omega.{arith}
-use borrow.Author.Rules.{rules}
 use Rattle.smc_check.proofs.check.missing.Goals as goal
 
 pub overflow_sub-result : goal.overflow_sub-result

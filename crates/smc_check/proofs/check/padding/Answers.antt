@@ -1,10 +1,6 @@
-use Prim.Native.Nat.{◌-◌, ◌≤◌}
-use mathlib.Core.Path.{◌≡◌, refl, sym, ◌∙◌}
+use mathlib.Core.Path.{refl, sym, ◌∙◌}
 use native.Mathlib.Omega.{arith}
-use lib.ListN.{length, drop}
-use Rattle.spec.specs.Chunks.{max_padding, padding}
 use Rattle.spec.proofs.Padding.{padding-none, padding-over, padding-other, padding-next}
-use borrow.Author.Rules.{rules}
 use Rattle.smc_check.proofs.check.padding.Goals as goal
 
 pub returns-then-len-at-gt-MAX_PADDING : goal.returns-then-len-at-gt-MAX_PADDING

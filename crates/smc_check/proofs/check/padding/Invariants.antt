@@ -1,10 +1,7 @@
 use Prim.Native.Nat.{◌-◌, ◌≤◌}
-use mathlib.Core.Path.{◌≡◌, refl, sym, ◌∙◌}
-use native.Mathlib.Omega.{arith}
+use mathlib.Core.Path.{◌≡◌}
 use lib.ListN.{length, drop}
 use Rattle.spec.specs.Chunks.{max_padding, padding}
-use Rattle.spec.proofs.Padding.{padding-none, padding-over, padding-other, padding-next}
-use borrow.Author.Rules.{rules}
 use Rattle.smc_check.proofs.check.padding.Given as goal
 
 abbrev pub invariant-loop-i : goal.invariant-loop-i

@@ -1,6 +1,5 @@
 use mathlib.Core.Path.{sym, ◌∙◌}
 use native.Mathlib.Omega.{arith}
-use borrow.Author.Rules.{rules}
 use Rattle.smc_check.proofs.Ways.{stands-room, stands-body, stands-once, upper-small, blocks-small, way_unknown, way-none-before, way-past, way-empty, way-runs}
 use Rattle.smc_check.proofs.check.whole.Goals as goal
 

@@ -1,7 +1,6 @@
 use Rattle.smc_check.proofs.Behind.{balanced-refused, refused-short, refused-differs}
-use mathlib.Core.Path.{sym, ◌∙◌}
+use mathlib.Core.Path.{◌∙◌}
 use native.Mathlib.Omega.{arith}
-use borrow.Author.Rules.{rules}
 use Rattle.smc_check.proofs.count.check.Goals as goal
 
 pub returns-then-len-lt4-clause-balanced : goal.returns-then-len-lt4-clause-balanced

@@ -1,11 +1,9 @@
-use Rattle.smc_check.proofs.Behind.{Along, along-tallied, along-begins, few-told, hinted-runs, hinted-bad, told-counts, balanced-bad, goes-on-counted, refused-remain, refused-follow, ends-ok, balanced-refused, balanced-ok}
+use Rattle.smc_check.proofs.Behind.{Along}
 use Rattle.smc_check.specs.Tallying.{Touches}
 use Rattle.smc_check.specs.Checking.{Spans, Times, Reaches}
 use lib.ListN.{length}
-use mathlib.Core.Path.{◌≡◌, refl, sym, ◌∙◌}
+use mathlib.Core.Path.{◌≡◌}
 use Prim.Native.Nat.{◌-◌}
-use native.Mathlib.Omega.{arith}
-use borrow.Author.Rules.{rules}
 use Rattle.smc_check.proofs.count.count_opcodes.Given as goal
 
 abbrev pub invariant-loop-k : goal.invariant-loop-k

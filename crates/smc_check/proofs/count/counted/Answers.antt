@@ -1,7 +1,4 @@
-use Rattle.smc_check.proofs.Tallies.{touch-small, product_small, owing-noted, counts-both}
-use native.Mathlib.Nat.{mul_comm}
-use Prim.Native.Nat.{◌*◌, ◌≤◌}
-use native.Mathlib.Omega.{arith}
+use Rattle.smc_check.proofs.Tallies.{owing-noted, counts-both}
 use Rattle.smc_check.proofs.count.counted.Goals as goal
 
 pub taken-requires-clause-owing : goal.taken-requires-clause-owing

@@ -3,7 +3,6 @@ use Rattle.smc_check.specs.Checking.{span_of, hinted}
 use lib.ListN.{get_or}
 use mathlib.Core.Path.{◌≡◌}
 use native.Mathlib.Omega.{arith}
-use borrow.Author.Rules.{rules}
 use Rattle.smc_check.proofs.count.head_at.Goals as goal
 
 pub returns-then-s-at : goal.returns-then-s-at

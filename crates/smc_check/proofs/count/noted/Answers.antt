@@ -1,7 +1,6 @@
-use Rattle.smc_check.proofs.Tallies.{reach-small, under-two, is-copy, some-reached, none-reached, touch-small, notes-plain}
+use Rattle.smc_check.proofs.Tallies.{none-reached, touch-small, notes-plain}
 use Prim.Native.Nat.{◌+◌}
 use native.Mathlib.Omega.{arith}
-use borrow.Author.Rules.{rules}
 use Rattle.smc_check.proofs.count.noted.Goals as goal
 
 pub overflow_sub-code : goal.overflow_sub-code

@@ -1,10 +1,8 @@
-use Rattle.smc_check.specs.Tallying.{open_in}
 use Rattle.smc_check.proofs.Tallies.{open_in-none, open_in-more, open_in-most, open-small}
 use lib.ListN.{get_or}
-use Prim.Native.Nat.{◌+◌, ◌-◌, ◌≤◌}
-use mathlib.Core.Path.{◌≡◌, sym, ap, ◌∙◌}
+use Prim.Native.Nat.{◌+◌}
+use mathlib.Core.Path.{sym}
 use native.Mathlib.Omega.{arith}
-use borrow.Author.Rules.{rules}
 use Rattle.smc_check.proofs.count.open_in.Goals as goal
 
 pub loop-i-init : goal.loop-i-init

@@ -1,7 +1,6 @@
 use Rattle.smc_check.specs.Tallying.{opened}
 use Rattle.spec.specs.Basics.{if}
 use Rattle.spec.proofs.Cases.{cases}
-use borrow.Author.Rules.{rules}
 use Rattle.smc_check.proofs.count.opened.Goals as goal
 
 pub returns-then-code-eq1 : goal.returns-then-code-eq1

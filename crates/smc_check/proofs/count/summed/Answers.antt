@@ -1,4 +1,4 @@
-use Rattle.smc_check.proofs.Tallies.{lo-hi, now-least}
+use Rattle.smc_check.proofs.Tallies.{now-least}
 use native.Mathlib.Omega.{arith}
 use Rattle.smc_check.proofs.count.summed.Goals as goal
 

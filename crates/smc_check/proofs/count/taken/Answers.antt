@@ -1,9 +1,8 @@
-use Rattle.smc_check.proofs.Tallies.{owing-few, owing-lo-hi, owing-least, taken-few, taken-on, taken-anew}
+use Rattle.smc_check.proofs.Tallies.{owing-few, owing-least, taken-few, taken-on, taken-anew}
 use Rattle.smc_check.specs.Tallying.{is_open, taken_of}
 use lib.ListN.{get_or}
 use mathlib.Core.Path.{◌≡◌}
 use native.Mathlib.Omega.{arith}
-use borrow.Author.Rules.{rules}
 use Rattle.smc_check.proofs.count.taken.Goals as goal
 
 pub overflow_sub-result : goal.overflow_sub-result

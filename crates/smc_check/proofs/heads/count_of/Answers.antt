@@ -1,4 +1,3 @@
-use borrow.Author.Rules.{rules}
 use Rattle.spec.specs.Basics.{if}
 use Rattle.spec.proofs.Cases.{cases}
 use Rattle.smc_check.proofs.heads.count_of.Goals as goal

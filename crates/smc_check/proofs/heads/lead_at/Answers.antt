@@ -1,6 +1,5 @@
 use mathlib.Core.Path.{◌∙◌}
 use native.Mathlib.Omega.{arith}
-use borrow.Author.Rules.{rules}
 use Rattle.smc_check.proofs.Leads.{body-by-bytes, count-by-bytes}
 use Rattle.smc_check.proofs.heads.lead_at.Goals as goal
 

@@ -1,12 +1,7 @@
-use Prim.Native.Nat.{◌+◌, ◌-◌, ◌≤◌}
 use mathlib.Core.Path.{◌≡◌}
 use native.Mathlib.Numerals.{add-one}
 use native.Mathlib.Omega.{arith}
-use lib.Seq.{slice}
-use lib.ListN.{get_or, take}
-use borrow.Author.Rules.{rules}
-use Rattle.spec.proofs.Cases.{cases}
-use Rattle.smc_writer.specs.Flags.{under}
+use lib.ListN.{get_or}
 use Rattle.smc_writer.proofs.Entries.{less-most, under_next, under-end}
 use Rattle.smc_writer.proofs.flags.entry_of.Goals as goal
 

@@ -1,13 +1,8 @@
 use Prim.Native.Nat.{◌+◌, ◌-◌, ◌≤◌}
 use mathlib.Core.Path.{◌≡◌}
-use native.Mathlib.Numerals.{add-one}
-use native.Mathlib.Omega.{arith}
 use lib.Seq.{slice}
-use lib.ListN.{get_or, take}
-use borrow.Author.Rules.{rules}
-use Rattle.spec.proofs.Cases.{cases}
+use lib.ListN.{take}
 use Rattle.smc_writer.specs.Flags.{under}
-use Rattle.smc_writer.proofs.Entries.{less-most, under_next, under-end}
 use Rattle.smc_writer.proofs.flags.entry_of.Given as goal
 
 abbrev pub invariant-loop-i : goal.invariant-loop-i

@@ -1,6 +1,5 @@
 use mathlib.Core.Path.{◌∙◌}
 use Rattle.smc_writer.proofs.RowNumbers.{counted-below, counted-packed}
-use borrow.Author.Rules.{rules}
 use Rattle.smc_writer.proofs.flags.flag_bytes.Goals as goal
 
 pub pack-requires-clause-a_bound : goal.pack-requires-clause-a_bound

@@ -1,9 +1,7 @@
 use mathlib.Core.Path.{◌≡◌}
 use native.Mathlib.Omega.{arith}
-use borrow.Author.Rules.{rules}
 use Rattle.spec.specs.Basics.{if}
 use Rattle.smc_writer.specs.Flags.{packed}
-use Rattle.smc_writer.proofs.RowNumbers.{row-range}
 use Rattle.smc_writer.proofs.flags.pack.Goals as goal
 
 pub returns-then-bits-eq1 : goal.returns-then-bits-eq1

@@ -1,8 +1,6 @@
 use mathlib.Core.Path.{◌∙◌}
-use native.Mathlib.Nat.{le_refl}
 use native.Mathlib.Omega.{arith}
 use Rattle.smc_writer.proofs.RowNumbers.{number-four, four-pixels, one-small, two-small}
-use borrow.Author.Rules.{rules}
 use Rattle.smc_writer.proofs.flags.row_number.Goals as goal
 
 pub overflow_add-result : goal.overflow_add-result

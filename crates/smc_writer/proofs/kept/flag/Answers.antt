@@ -1,5 +1,4 @@
 use mathlib.Core.Path.{sym, ◌∙◌}
-use borrow.Author.Rules.{rules}
 use Rattle.spec.specs.Basics.{if}
 use Rattle.smc_writer.proofs.kept.flag.Goals as goal
 

@@ -1,11 +1,7 @@
 use Prim.Native.Nat.{◌-◌, ◌*◌, ◌≤◌}
-use mathlib.Core.Path.{◌≡◌, ◌∙◌}
-use native.Mathlib.Omega.{arith}
-use lib.ListN.{length, length-set}
-use borrow.Author.Rules.{rules}
+use mathlib.Core.Path.{◌≡◌}
+use lib.ListN.{length}
 use Rattle.smc_writer.specs.Kept.{Flagged}
-use Rattle.blocks.proofs.Rowwise.{at_most}
-use Rattle.smc_writer.proofs.Flagging.{flagged-more}
 use Rattle.smc_writer.proofs.kept.flag_kept.Given as goal
 
 abbrev pub invariant-loop-k : goal.invariant-loop-k

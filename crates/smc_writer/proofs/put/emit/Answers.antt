@@ -1,10 +1,7 @@
 use mathlib.Core.Path.{sym, ap, ◌∙◌}
-use native.Mathlib.Omega.{arith}
 use borrow.Author.Tests.{leb-true, leb-false}
 use Rattle.spec.specs.Writing.{Wrote}
-use Rattle.blocks.proofs.Rowwise.{at_most}
 use Rattle.smc_writer.proofs.Emitting.{emit-short, emit-fits}
-use borrow.Author.Rules.{rules}
 use Rattle.smc_writer.proofs.put.emit.Goals as goal
 
 pub returns-then-fits-clause-value : goal.returns-then-fits-clause-value

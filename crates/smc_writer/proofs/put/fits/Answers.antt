@@ -1,13 +1,11 @@
-use Prim.Native.Nat.{ℕ, ◌*◌}
-use mathlib.Core.Path.{sym, ap}
+use Prim.Native.Nat.{◌*◌}
+use mathlib.Core.Path.{sym}
 use native.Mathlib.Omega.{arith}
-use lib.Dec.{leb}
 use lib.ListN.{length}
 use borrow.Author.Tests.{le-leb}
 use Rattle.spec.specs.Writing.{encode}
 use Rattle.smc_writer.specs.Kept.{origins}
 use Rattle.smc_writer.proofs.Emitting.{origins-most}
-use borrow.Author.Rules.{rules}
 use Rattle.smc_writer.proofs.put.fits.Goals as goal
 
 pub returns-then-c-r : goal.returns-then-c-r

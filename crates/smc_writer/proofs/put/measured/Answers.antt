@@ -1,12 +1,11 @@
-use Prim.Native.Nat.{◌+◌, ◌-◌, ◌*◌, ◌≤◌}
-use mathlib.Core.Path.{◌≡◌, refl, sym}
+use Prim.Native.Nat.{◌+◌, ◌-◌, ◌*◌}
+use mathlib.Core.Path.{◌≡◌}
 use native.Mathlib.Omega.{arith}
-use lib.ListN.{length}
 use Rattle.spec.proofs.Written.{length-encode}
 use Rattle.blocks.proofs.Rowwise.{at_most}
 use Rattle.smc_writer.proofs.Running.{ran}
 use Rattle.smc_writer.specs.Kept.{origins}
-use Rattle.smc_writer.proofs.Progress.{bytes_most, opcodes-few, Progress, progress-none, progress-room, progress-on, progress-total}
+use Rattle.smc_writer.proofs.Progress.{bytes_most, opcodes-few, progress-room, progress-on, progress-total}
 use Rattle.smc_writer.proofs.put.measured.Goals as goal
 
 pub put_run-run-requires-clause-k_in_bounds : goal.put_run-run-requires-clause-k_in_bounds

@@ -1,12 +1,7 @@
-use Prim.Native.Nat.{◌+◌, ◌-◌, ◌*◌, ◌≤◌}
-use mathlib.Core.Path.{◌≡◌, refl, sym}
-use native.Mathlib.Omega.{arith}
+use Prim.Native.Nat.{◌-◌, ◌*◌, ◌≤◌}
+use mathlib.Core.Path.{◌≡◌}
 use lib.ListN.{length}
-use Rattle.spec.proofs.Written.{length-encode}
-use Rattle.blocks.proofs.Rowwise.{at_most}
-use Rattle.smc_writer.proofs.Running.{ran}
-use Rattle.smc_writer.specs.Kept.{origins}
-use Rattle.smc_writer.proofs.Progress.{bytes_most, opcodes-few, Progress, progress-none, progress-room, progress-on, progress-total}
+use Rattle.smc_writer.proofs.Progress.{Progress}
 use Rattle.smc_writer.proofs.put.measured.Given as goal
 
 abbrev pub invariant-loop-k : goal.invariant-loop-k

@@ -1,9 +1,6 @@
 use native.Mathlib.Omega.{arith}
-use Prim.Native.Nat.{◌*◌}
 use lib.ListN.{length-set}
 use borrow.Author.Rules.{rules}
-use Rattle.blocks.proofs.Rowwise.{at_most}
-use Rattle.smc_writer.proofs.Progress.{opcodes-few}
 use Rattle.smc_writer.proofs.Emitting.{four-fit, opcodes-fit, length-behind, chunk-put}
 use Rattle.smc_writer.proofs.put.put_chunk.Goals as goal
 

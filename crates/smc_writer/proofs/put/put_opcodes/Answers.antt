@@ -1,9 +1,8 @@
-use Prim.Native.Nat.{◌-◌, ◌*◌}
+use Prim.Native.Nat.{◌*◌}
 use native.Mathlib.Omega.{arith}
 use Rattle.blocks.proofs.Rowwise.{at_most}
 use Rattle.smc_writer.proofs.Running.{ran}
-use Rattle.smc_writer.proofs.Progress.{opcodes-few, progress-room, Laid, laid_none, laid-all, laid-place, laid-fits, laid_on}
-use borrow.Author.Rules.{rules}
+use Rattle.smc_writer.proofs.Progress.{laid_none, laid-all, laid-fits, laid_on}
 use Rattle.smc_writer.proofs.put.put_opcodes.Goals as goal
 
 -- NEED? part-put-run-start : tie.Need-slice-bounds-put-run-start invariant-loop decreases-loop

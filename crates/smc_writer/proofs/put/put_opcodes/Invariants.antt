@@ -1,9 +1,5 @@
 use Prim.Native.Nat.{◌-◌, ◌*◌}
-use native.Mathlib.Omega.{arith}
-use Rattle.blocks.proofs.Rowwise.{at_most}
-use Rattle.smc_writer.proofs.Running.{ran}
-use Rattle.smc_writer.proofs.Progress.{opcodes-few, progress-room, Laid, laid_none, laid-all, laid-place, laid-fits, laid_on}
-use borrow.Author.Rules.{rules}
+use Rattle.smc_writer.proofs.Progress.{Laid}
 use Rattle.smc_writer.proofs.put.put_opcodes.Given as goal
 
 abbrev pub invariant-loop-k : goal.invariant-loop-k

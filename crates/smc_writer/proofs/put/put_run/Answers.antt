@@ -1,10 +1,6 @@
 use Prim.Native.Nat.{◌*◌}
-use mathlib.Core.Path.{refl, sym, ap, ◌∙◌}
-use native.Mathlib.Omega.{arith}
-use lib.ListN.{length}
-use Rattle.smc_writer.proofs.Sameness.{length-pixels}
+use mathlib.Core.Path.{sym, ◌∙◌}
 use Rattle.smc_writer.proofs.Running.{ran, bytes-skip, bytes-fill, bytes-single, run-single}
-use borrow.Author.Rules.{rules}
 use Rattle.smc_writer.proofs.put.put_run.Goals as goal
 
 pub put_counting-bytes-requires-clause-le_m : goal.put_counting-bytes-requires-clause-le_m

@@ -1,5 +1,4 @@
 use mathlib.Core.Path.{◌∙◌}
-use borrow.Author.Rules.{rules}
 use Rattle.blocks.specs.Blocks.{pixels}
 use Rattle.smc_writer.proofs.Sameness.{length-pixels, pixels-flat, plain-same}
 use Rattle.smc_writer.proofs.rows.is_plain.Goals as goal

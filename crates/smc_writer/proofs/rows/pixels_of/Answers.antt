@@ -1,5 +1,4 @@
 use mathlib.Core.Path.{refl}
-use borrow.Author.Rules.{rules}
 use Rattle.blocks.specs.Blocks.{row_of, pixels}
 use Rattle.smc_writer.proofs.rows.pixels_of.Goals as goal
 

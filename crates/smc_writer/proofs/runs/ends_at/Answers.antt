@@ -1,8 +1,6 @@
 use mathlib.Core.Path.{sym, ◌∙◌}
 use mathlib.Core.Bool.{true, false}
 use native.Mathlib.Omega.{arith}
-use borrow.Author.Rules.{rules}
-use Rattle.blocks.proofs.Rowwise.{at_most}
 use Rattle.smc_writer.proofs.Running.{ends-past, ends-skip, ends-kept, ends-apart}
 use Rattle.smc_writer.proofs.runs.ends_at.Goals as goal
 

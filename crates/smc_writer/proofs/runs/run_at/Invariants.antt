@@ -1,9 +1,6 @@
 use Prim.Native.Nat.{◌+◌, ◌-◌, ◌*◌}
-use mathlib.Core.Path.{sym, ◌∙◌}
-use native.Mathlib.Omega.{arith}
-use borrow.Author.Rules.{rules}
 use Rattle.spec.specs.Writing.{max_run}
-use Rattle.smc_writer.proofs.Running.{Counting, counting-starts, counting-stops, counting-on, counting-full}
+use Rattle.smc_writer.proofs.Running.{Counting}
 use Rattle.smc_writer.proofs.runs.run_at.Given as goal
 
 abbrev pub invariant-loop-m : goal.invariant-loop-m

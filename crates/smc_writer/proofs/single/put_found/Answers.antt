@@ -3,7 +3,6 @@ use mathlib.Core.Path.{ap}
 use native.Mathlib.Omega.{arith}
 use lib.ListN.{length}
 use Rattle.smc_writer.proofs.Singles.{single-whole, some, single-pair, single-quad, single-octet, by-table}
-use borrow.Author.Rules.{rules}
 use Rattle.smc_writer.proofs.single.put_found.Goals as goal
 
 pub put_whole-requires-clause-in_bounds : goal.put_whole-requires-clause-in_bounds

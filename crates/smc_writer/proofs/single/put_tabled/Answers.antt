@@ -1,12 +1,8 @@
-use mathlib.Core.Path.{◌≡◌}
-use mathlib.Core.List.{[]}
 use native.Mathlib.Omega.{arith}
-use lib.ListN.{length, length-set}
 use Rattle.spec.specs.Writing.{colours, entries}
 use Rattle.spec.proofs.Colours.{length-entries}
 use Rattle.spec.proofs.Written.{length-tabled}
-use Rattle.smc_writer.proofs.Placing.{length-first, length_both, table-put}
-use borrow.Author.Rules.{rules}
+use Rattle.smc_writer.proofs.Placing.{table-put}
 use Rattle.smc_writer.proofs.single.put_tabled.Goals as goal
 
 pub returns-clause-value : goal.returns-clause-value

@@ -1,9 +1,8 @@
-use mathlib.Core.Path.{◌≡◌, ap, ◌∙◌}
+use mathlib.Core.Path.{◌≡◌, ◌∙◌}
 use native.Mathlib.Omega.{arith}
-use lib.ListN.{length, length-set, take}
-use lib.Seq.{take_all, length-take-le}
-use Rattle.smc_writer.proofs.Placing.{length_over, over_first}
-use borrow.Author.Rules.{rules}
+use lib.ListN.{take}
+use lib.Seq.{take_all}
+use Rattle.smc_writer.proofs.Placing.{over_first}
 use Rattle.smc_writer.proofs.single.put_whole.Goals as goal
 
 pub returns-clause-out_after : goal.returns-clause-out_after

@@ -1,5 +1,3 @@
-use native.Mathlib.Omega.{arith}
-use borrow.Author.Rules.{rules}
 use Rattle.spec.specs.Basics.{if}
 use Rattle.sprite.specs.Files.{joined}
 use Rattle.sprite.proofs.bytes.word.Goals as goal

@@ -1,7 +1,6 @@
 use mathlib.Core.Path.{sym, ap, ◌∙◌}
 use mathlib.Core.List.{List}
 use native.Mathlib.Omega.{arith}
-use borrow.Author.Rules.{rules}
 use Rattle.sprite.specs.Frames.{Shade, Ended}
 use Rattle.sprite.proofs.Heading.{known, frame_refused, frame-there}
 use Rattle.sprite.proofs.check.check.Goals as goal

@@ -1,11 +1,8 @@
-use Prim.Native.Nat.{◌-◌}
-use mathlib.Core.List.{List, []}
 use mathlib.Core.Path.{sym, ap}
 use native.Mathlib.Omega.{arith}
-use borrow.Author.Rules.{rules}
 use Rattle.sprite.specs.Frames.{Shade, Ended}
 use Rattle.sprite.proofs.Segments.{stands, segment-told}
-use Rattle.sprite.proofs.Progress.{InRow, row-begins, row-goes-on, row-ends-bad, row_ends}
+use Rattle.sprite.proofs.Progress.{row-goes-on, row-ends-bad, row_ends}
 use Rattle.sprite.proofs.check.check_row.Goals as goal
 
 pub returns-in-Bad : goal.returns-in-Bad

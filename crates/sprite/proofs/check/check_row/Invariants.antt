@@ -1,11 +1,7 @@
 use Prim.Native.Nat.{◌-◌}
-use mathlib.Core.List.{List, []}
-use mathlib.Core.Path.{sym, ap}
-use native.Mathlib.Omega.{arith}
-use borrow.Author.Rules.{rules}
-use Rattle.sprite.specs.Frames.{Shade, Ended}
-use Rattle.sprite.proofs.Segments.{stands, segment-told}
-use Rattle.sprite.proofs.Progress.{InRow, row-begins, row-goes-on, row-ends-bad, row_ends}
+use mathlib.Core.List.{List}
+use Rattle.sprite.specs.Frames.{Shade}
+use Rattle.sprite.proofs.Progress.{InRow}
 use Rattle.sprite.proofs.check.check_row.Given as goal
 
 abbrev pub invariant-loop-next : goal.invariant-loop-next

@@ -1,6 +1,4 @@
-use mathlib.Core.Path.{refl}
 use native.Mathlib.Omega.{arith}
-use borrow.Author.Rules.{rules}
 use Rattle.sprite.proofs.Heading.{known}
 use Rattle.sprite.proofs.files.frame_at.Goals as goal
 

@@ -1,4 +1,3 @@
-use borrow.Author.Rules.{rules}
 use Rattle.spec.proofs.Cases.{cases}
 use Rattle.sprite.specs.Files.{is_frame}
 use Rattle.sprite.proofs.files.is_frame.Goals as goal

@@ -1,4 +1,3 @@
-use borrow.Author.Rules.{rules}
 use Rattle.spec.proofs.Cases.{cases}
 use Rattle.sprite.specs.Files.{is_sprite}
 use Rattle.sprite.proofs.files.is_sprite.Goals as goal

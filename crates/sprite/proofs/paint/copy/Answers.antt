@@ -1,10 +1,5 @@
-use Prim.Native.Nat.{◌≤◌, ◌-◌}
-use mathlib.Core.Path.{◌≡◌, refl}
 use native.Mathlib.Omega.{arith}
-use lib.ListN.{length-set, length}
-use lib.Seq.{sets}
-use borrow.Author.Rules.{rules}
-use Rattle.spec.specs.Basics.{part}
+use lib.ListN.{length-set}
 use Rattle.spec.proofs.Parts.{sets-step}
 use Rattle.sprite.proofs.paint.copy.Goals as goal
 

@@ -1,11 +1,8 @@
 use Prim.Native.Nat.{◌≤◌, ◌-◌}
-use mathlib.Core.Path.{◌≡◌, refl}
-use native.Mathlib.Omega.{arith}
-use lib.ListN.{length-set, length}
+use mathlib.Core.Path.{◌≡◌}
+use lib.ListN.{length}
 use lib.Seq.{sets}
-use borrow.Author.Rules.{rules}
 use Rattle.spec.specs.Basics.{part}
-use Rattle.spec.proofs.Parts.{sets-step}
 use Rattle.sprite.proofs.paint.copy.Given as goal
 
 abbrev pub invariant-loop-i : goal.invariant-loop-i

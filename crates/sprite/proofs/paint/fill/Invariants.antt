@@ -1,10 +1,7 @@
 use Prim.Native.Nat.{◌≤◌, ◌-◌}
-use mathlib.Core.Path.{◌≡◌, refl}
-use native.Mathlib.Omega.{arith}
-use lib.ListN.{length-set, length, replicate}
+use mathlib.Core.Path.{◌≡◌}
+use lib.ListN.{length, replicate}
 use lib.Seq.{sets}
-use borrow.Author.Rules.{rules}
-use Rattle.sprite.proofs.Segmentwise.{fill_step}
 use Rattle.sprite.proofs.paint.fill.Given as goal
 
 abbrev pub invariant-loop-i : goal.invariant-loop-i

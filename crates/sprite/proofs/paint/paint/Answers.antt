@@ -1,6 +1,5 @@
 use mathlib.Core.Path.{ap, ◌∙◌}
 use native.Mathlib.Omega.{arith}
-use borrow.Author.Rules.{rules}
 use Rattle.sprite.specs.Frames.{frame}
 use Rattle.sprite.specs.Strips.{from_least}
 use Rattle.sprite.proofs.Heading.{known, frame-there, no-fault}

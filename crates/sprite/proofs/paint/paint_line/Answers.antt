@@ -1,8 +1,4 @@
-use Prim.Native.Nat.{◌+◌, ◌-◌}
-use mathlib.Core.Path.{◌≡◌}
 use native.Mathlib.Omega.{arith}
-use borrow.Author.Rules.{rules}
-use Rattle.sprite.specs.Strips.{origin}
 use Rattle.sprite.proofs.Laying.{strip-off}
 use Rattle.sprite.proofs.paint.paint_line.Goals as goal
 

@@ -1,12 +1,7 @@
-use Prim.Native.Nat.{◌+◌, ◌-◌}
-use mathlib.Core.Path.{sym, ◌∙◌}
-use mathlib.Core.List.{List, []}
+use mathlib.Core.List.{[]}
 use native.Mathlib.Omega.{arith}
-use borrow.Author.Rules.{rules}
-use Rattle.sprite.specs.Frames.{Shade}
-use Rattle.sprite.specs.Strips.{origin}
 use Rattle.sprite.proofs.Segments.{stands, segment-told}
-use Rattle.sprite.proofs.Rowwise.{RowPainted, row-unpainted, row-paints-on, row-painted-bad, row-painted, row-length}
+use Rattle.sprite.proofs.Rowwise.{row-unpainted, row-paints-on, row-painted-bad, row-painted, row-length}
 use Rattle.sprite.proofs.paint.paint_row.Goals as goal
 
 pub loop-next-init : goal.loop-next-init

@@ -1,12 +1,8 @@
 use Prim.Native.Nat.{◌+◌, ◌-◌}
-use mathlib.Core.Path.{sym, ◌∙◌}
-use mathlib.Core.List.{List, []}
-use native.Mathlib.Omega.{arith}
-use borrow.Author.Rules.{rules}
+use mathlib.Core.List.{List}
 use Rattle.sprite.specs.Frames.{Shade}
 use Rattle.sprite.specs.Strips.{origin}
-use Rattle.sprite.proofs.Segments.{stands, segment-told}
-use Rattle.sprite.proofs.Rowwise.{RowPainted, row-unpainted, row-paints-on, row-painted-bad, row-painted, row-length}
+use Rattle.sprite.proofs.Rowwise.{RowPainted}
 use Rattle.sprite.proofs.paint.paint_row.Given as goal
 
 abbrev pub invariant-loop-next : goal.invariant-loop-next

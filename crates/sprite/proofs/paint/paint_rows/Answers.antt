@@ -1,12 +1,7 @@
-use Prim.Native.Nat.{◌-◌}
-use mathlib.Core.Path.{sym, ◌∙◌}
-use mathlib.Core.List.{List, []}
+use mathlib.Core.List.{[]}
 use native.Mathlib.Omega.{arith}
-use lib.ListN.{length}
-use borrow.Author.Rules.{rules}
-use Rattle.sprite.specs.Frames.{Shade}
 use Rattle.sprite.proofs.RowHeads.{row-head-told, is-blank, is-data}
-use Rattle.sprite.proofs.Rowwise.{FramePainted, frame-unpainted, frame-painted, frame-length, no-bad-row, frame-paints-blank, frame-paints-on}
+use Rattle.sprite.proofs.Rowwise.{frame-unpainted, frame-painted, frame-length, no-bad-row, frame-paints-blank, frame-paints-on}
 use Rattle.sprite.proofs.paint.paint_rows.Goals as goal
 
 pub loop-done-init : goal.loop-done-init

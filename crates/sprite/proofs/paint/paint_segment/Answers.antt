@@ -1,8 +1,7 @@
 use native.Mathlib.Omega.{arith}
-use borrow.Author.Rules.{rules}
 use Rattle.sprite.specs.Frames.{code_at, count_at}
 use Rattle.sprite.proofs.Segments.{bytes_run}
-use Rattle.sprite.proofs.Segmentwise.{unseen-kept, clear_kept, stores-within, reads-within, run-painted, copy-painted}
+use Rattle.sprite.proofs.Segmentwise.{unseen-kept, clear_kept, reads-within, run-painted, copy-painted}
 use Rattle.sprite.proofs.paint.paint_segment.Goals as goal
 
 pub returns-then-visible-eq0 : goal.returns-then-visible-eq0
