@@ -109,7 +109,7 @@ int main(void)
     uint16_t map[BLOCKS];
     struct seatboard_record record = kept("fresh map", seatboard_fresh_map(size, map, BLOCKS));
 
-    /* two blocks kept, one of colour 5, one of colours 3 and 7 by flags */
+    /* two blocks skipped, one of colour 5, one of colours 3 and 7 by flags */
     const uint8_t chunk[] = {0xE1, 0, 0, 12, 0x01, 0x60, 5, 0x80, 3, 7, 0x00, 0x0F};
     record = kept("read chunk", seatboard_read_chunk(record, chunk, sizeof chunk, picture, PIXELS, map, BLOCKS));
     print_picture(picture);

@@ -13,7 +13,7 @@ use crate::{Accepted, FeedSize, Reason, Record, Refused, Size, Step, Tally};
 /// let mut board = Board::new(Size { width: 8, height: 4 })?;
 /// assert_eq!((board.map(), board.unsettled()), (&[0, 1][..], 2));
 ///
-/// board.read_chunk(&[0xE1, 0, 0, 7, 0x60, 5, 0x00])?; // block 0 of colour 5, block 1 kept
+/// board.read_chunk(&[0xE1, 0, 0, 7, 0x60, 5, 0x00])?; // block 0 of colour 5, block 1 skipped
 /// assert_eq!((board.map(), board.unsettled()), (&[SETTLED, 1][..], 1));
 /// assert_eq!(board.picture()[..8], [5, 5, 5, 5, 0, 0, 0, 0]);
 /// # Ok(())
@@ -133,7 +133,7 @@ impl Board {
     /// ```
     /// # fn main() -> Result<(), seatboard::Refused> {
     /// # use seatboard::{Board, Reason};
-    /// // one block of colour 5 and one kept; a chunk of length 0, which is refused; both of colour 7
+    /// // one block of colour 5 and one skipped; a chunk of length 0, which is refused; both of colour 7
     /// let feed = [2, 1, 7, 0xE1, 0, 0, 7, 0x60, 5, 0, 0, 6, 0xE1, 0, 0, 6, 0x61, 7];
     /// let mut board = Board::for_feed(&feed)?;
     /// let mut steps = board.steps(&feed)?;
