@@ -115,3 +115,16 @@ step-further z s at b said e =
   where
     Further : Step → Type 0
     Further x = x.chunk ≡ true → (at < x.next) × (x.next ≤ length s)
+
+-- a step that read a chunk, behind 1 and 2, has gone on, within the feed: as the checker looks for it where a loop has to end
+module _ (z : Size) (s : List ℕ) (at : ℕ) (b : Board) where
+  pub went_on : (step_by z s at (next_at s at) b).said.chunk ≡ true
+      → (step_by z s at (next_at s at) b).said.next ≡ at + 1 + ((step_by z s at (next_at s at) b).said.next - at - 1)
+  went_on e =
+      let o = (stepped z s (length s) (le_refl (length s)) at b).onward e in
+      omega (arith, o.further)
+
+  pub stays_within : (step_by z s at (next_at s at) b).said.chunk ≡ true → (step_by z s at (next_at s at) b).said.next ≤ length s
+  stays_within e = ((stepped z s (length s) (le_refl (length s)) at b).onward e).within
+
+pub ruleset onward_rules = (went_on, stays_within)

@@ -86,6 +86,7 @@ pub fn step(kept: Record, feed: &[u8], at: usize, picture: &mut [u8], map: &mut 
 }
 
 // The chunks from a place on, each over what the one before it left, and how many of them were accepted.
+#[tactic(auto, using(crate::proofs::Walking::onward_rules))]
 fn read_chunks(
     lent: Record,
     feed: &[u8],

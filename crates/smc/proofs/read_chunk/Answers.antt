@@ -75,7 +75,7 @@ miscounts-requires c = let a = c.args in
     let q = c.board_fault-number.ensures in
     let h = c.if-number-ne-OK.false in
     let few = (allowed-size a.kept.size (size-allowed a.kept.size a.chunk.now a.picture.now a.map.now a.kept.unsettled _ q h)).few in
-    let g = is-accepted a.kept.size a.chunk.now a.picture.now a.map.now a.kept.unsettled _ q h _ c.check-changed.ensures.answer_value c.if-answer-ne-OK.false in
+    let g = is-accepted a.kept.size a.chunk.now a.picture.now a.map.now a.kept.unsettled _ q h _ c.check-changed.ensures.answer_value (assumption c) in
     let small = now-small a.kept.size a.chunk.now a.picture.now a.map.now a.kept.unsettled _ q h g _ c.check-changed.ensures.balanced in
     (few, small)
 
@@ -83,7 +83,7 @@ pub returns-then-miscounts-clause-answer_value : goal.returns-then-miscounts-cla
 returns-then-miscounts-clause-answer_value c = let a = c.args in
     let q = c.board_fault-number.ensures in
     let h = c.if-number-ne-OK.false in
-    let g = is-accepted a.kept.size a.chunk.now a.picture.now a.map.now a.kept.unsettled _ q h _ c.check-changed.ensures.answer_value c.if-answer-ne-OK.false in
+    let g = is-accepted a.kept.size a.chunk.now a.picture.now a.map.now a.kept.unsettled _ q h _ c.check-changed.ensures.answer_value (assumption c) in
     let e = read-miscounts a.kept.size a.chunk.now a.picture.now a.map.now a.kept.unsettled _ q h g _ c.check-changed.ensures.balanced
     (sym c.miscounts.ensures ∙ c.if-miscounts.true) in
     rw (c.refused-then-miscounts.ensures, e) refl
@@ -92,7 +92,7 @@ pub returns-then-miscounts-clause-kept_value : goal.returns-then-miscounts-claus
 returns-then-miscounts-clause-kept_value c = let a = c.args in
     let q = c.board_fault-number.ensures in
     let h = c.if-number-ne-OK.false in
-    let g = is-accepted a.kept.size a.chunk.now a.picture.now a.map.now a.kept.unsettled _ q h _ c.check-changed.ensures.answer_value c.if-answer-ne-OK.false in
+    let g = is-accepted a.kept.size a.chunk.now a.picture.now a.map.now a.kept.unsettled _ q h _ c.check-changed.ensures.answer_value (assumption c) in
     let e = read-miscounts a.kept.size a.chunk.now a.picture.now a.map.now a.kept.unsettled _ q h g _ c.check-changed.ensures.balanced
     (sym c.miscounts.ensures ∙ c.if-miscounts.true) in
     rw (c.refused-then-miscounts.ensures, e) refl
@@ -101,7 +101,7 @@ pub returns-then-miscounts-clause-picture_after : goal.returns-then-miscounts-cl
 returns-then-miscounts-clause-picture_after c = let a = c.args in
     let q = c.board_fault-number.ensures in
     let h = c.if-number-ne-OK.false in
-    let g = is-accepted a.kept.size a.chunk.now a.picture.now a.map.now a.kept.unsettled _ q h _ c.check-changed.ensures.answer_value c.if-answer-ne-OK.false in
+    let g = is-accepted a.kept.size a.chunk.now a.picture.now a.map.now a.kept.unsettled _ q h _ c.check-changed.ensures.answer_value (assumption c) in
     let e = read-miscounts a.kept.size a.chunk.now a.picture.now a.map.now a.kept.unsettled _ q h g _ c.check-changed.ensures.balanced
     (sym c.miscounts.ensures ∙ c.if-miscounts.true) in
     rw e refl
@@ -110,7 +110,7 @@ pub returns-then-miscounts-clause-map_after : goal.returns-then-miscounts-clause
 returns-then-miscounts-clause-map_after c = let a = c.args in
     let q = c.board_fault-number.ensures in
     let h = c.if-number-ne-OK.false in
-    let g = is-accepted a.kept.size a.chunk.now a.picture.now a.map.now a.kept.unsettled _ q h _ c.check-changed.ensures.answer_value c.if-answer-ne-OK.false in
+    let g = is-accepted a.kept.size a.chunk.now a.picture.now a.map.now a.kept.unsettled _ q h _ c.check-changed.ensures.answer_value (assumption c) in
     let e = read-miscounts a.kept.size a.chunk.now a.picture.now a.map.now a.kept.unsettled _ q h g _ c.check-changed.ensures.balanced
     (sym c.miscounts.ensures ∙ c.if-miscounts.true) in
     rw e refl
@@ -119,14 +119,14 @@ pub paint-requires-clause-lent : goal.paint-requires-clause-lent
 paint-requires-clause-lent c = let a = c.args in
     let q = c.board_fault-number.ensures in
     let h = c.if-number-ne-OK.false in
-    let g = is-accepted a.kept.size a.chunk.now a.picture.now a.map.now a.kept.unsettled _ q h _ c.check-changed.ensures.answer_value c.if-answer-ne-OK.false in
+    let g = is-accepted a.kept.size a.chunk.now a.picture.now a.map.now a.kept.unsettled _ q h _ c.check-changed.ensures.answer_value (assumption c) in
     lent a.kept.size a.chunk.now a.picture.now a.map.now a.kept.unsettled _ q h
 
 pub paint-requires-clause-accepts : goal.paint-requires-clause-accepts
 paint-requires-clause-accepts c = let a = c.args in
     let q = c.board_fault-number.ensures in
     let h = c.if-number-ne-OK.false in
-    let g = is-accepted a.kept.size a.chunk.now a.picture.now a.map.now a.kept.unsettled _ q h _ c.check-changed.ensures.answer_value c.if-answer-ne-OK.false in
+    let g = is-accepted a.kept.size a.chunk.now a.picture.now a.map.now a.kept.unsettled _ q h _ c.check-changed.ensures.answer_value (assumption c) in
     g
 
 pub overflow_add-result : goal.overflow_add-result
@@ -142,7 +142,7 @@ pub returns-clause-answer_value : goal.returns-clause-answer_value
 returns-clause-answer_value c = let a = c.args in
     let q = c.board_fault-number.ensures in
     let h = c.if-number-ne-OK.false in
-    let g = is-accepted a.kept.size a.chunk.now a.picture.now a.map.now a.kept.unsettled _ q h _ c.check-changed.ensures.answer_value c.if-answer-ne-OK.false in
+    let g = is-accepted a.kept.size a.chunk.now a.picture.now a.map.now a.kept.unsettled _ q h _ c.check-changed.ensures.answer_value (assumption c) in
     let f = sym c.miscounts.ensures ∙ c.if-miscounts.false in
     let e = read-paints a.kept.size a.chunk.now a.picture.now a.map.now a.kept.unsettled _ q h g _ c.check-changed.ensures.balanced f in
     let n = kept_then a.kept.size a.chunk.now a.picture.now a.map.now a.kept.unsettled _ q h g _ c.check-changed.ensures.balanced in
@@ -152,7 +152,7 @@ pub returns-clause-kept_value : goal.returns-clause-kept_value
 returns-clause-kept_value c = let a = c.args in
     let q = c.board_fault-number.ensures in
     let h = c.if-number-ne-OK.false in
-    let g = is-accepted a.kept.size a.chunk.now a.picture.now a.map.now a.kept.unsettled _ q h _ c.check-changed.ensures.answer_value c.if-answer-ne-OK.false in
+    let g = is-accepted a.kept.size a.chunk.now a.picture.now a.map.now a.kept.unsettled _ q h _ c.check-changed.ensures.answer_value (assumption c) in
     let f = sym c.miscounts.ensures ∙ c.if-miscounts.false in
     let e = read-paints a.kept.size a.chunk.now a.picture.now a.map.now a.kept.unsettled _ q h g _ c.check-changed.ensures.balanced f in
     let n = kept_then a.kept.size a.chunk.now a.picture.now a.map.now a.kept.unsettled _ q h g _ c.check-changed.ensures.balanced in
@@ -162,7 +162,7 @@ pub returns-clause-picture_after : goal.returns-clause-picture_after
 returns-clause-picture_after c = let a = c.args in
     let q = c.board_fault-number.ensures in
     let h = c.if-number-ne-OK.false in
-    let g = is-accepted a.kept.size a.chunk.now a.picture.now a.map.now a.kept.unsettled _ q h _ c.check-changed.ensures.answer_value c.if-answer-ne-OK.false in
+    let g = is-accepted a.kept.size a.chunk.now a.picture.now a.map.now a.kept.unsettled _ q h _ c.check-changed.ensures.answer_value (assumption c) in
     let f = sym c.miscounts.ensures ∙ c.if-miscounts.false in
     let e = read-paints a.kept.size a.chunk.now a.picture.now a.map.now a.kept.unsettled _ q h g _ c.check-changed.ensures.balanced f in
     let n = kept_then a.kept.size a.chunk.now a.picture.now a.map.now a.kept.unsettled _ q h g _ c.check-changed.ensures.balanced in
@@ -172,7 +172,7 @@ pub returns-clause-map_after : goal.returns-clause-map_after
 returns-clause-map_after c = let a = c.args in
     let q = c.board_fault-number.ensures in
     let h = c.if-number-ne-OK.false in
-    let g = is-accepted a.kept.size a.chunk.now a.picture.now a.map.now a.kept.unsettled _ q h _ c.check-changed.ensures.answer_value c.if-answer-ne-OK.false in
+    let g = is-accepted a.kept.size a.chunk.now a.picture.now a.map.now a.kept.unsettled _ q h _ c.check-changed.ensures.answer_value (assumption c) in
     let f = sym c.miscounts.ensures ∙ c.if-miscounts.false in
     let e = read-paints a.kept.size a.chunk.now a.picture.now a.map.now a.kept.unsettled _ q h g _ c.check-changed.ensures.balanced f in
     let n = kept_then a.kept.size a.chunk.now a.picture.now a.map.now a.kept.unsettled _ q h g _ c.check-changed.ensures.balanced in
