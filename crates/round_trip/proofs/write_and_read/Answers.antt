@@ -40,19 +40,22 @@ pub returns-then-wrote-ne-OK-clause-picture_after : goal.returns-then-wrote-ne-O
 returns-then-wrote-ne-OK-clause-picture_after c = let a = c.args in
     let lent = lent_board a.picture.now a.map.now in
     let e = (fine a.size a.new.now lent a.out.now _ c.board_fault-number.ensures c.if-number-ne-OK.false).1 in
-    (told (trip-refused a.size a.new.now lent e a.out.now _ c.write_chunk-wrote.ensures.value _ c.write_chunk-wrote.ensures.out_after c.if-wrote-ne-OK.true)).1.0
+    (told (trip-refused a.size a.new.now lent e a.out.now _ c.write_chunk-wrote.ensures.value _ c.write_chunk-wrote.ensures.out_after
+    c.if-wrote-ne-OK.true)).1.0
 
 pub returns-then-wrote-ne-OK-clause-map_after : goal.returns-then-wrote-ne-OK-clause-map_after
 returns-then-wrote-ne-OK-clause-map_after c = let a = c.args in
     let lent = lent_board a.picture.now a.map.now in
     let e = (fine a.size a.new.now lent a.out.now _ c.board_fault-number.ensures c.if-number-ne-OK.false).1 in
-    (told (trip-refused a.size a.new.now lent e a.out.now _ c.write_chunk-wrote.ensures.value _ c.write_chunk-wrote.ensures.out_after c.if-wrote-ne-OK.true)).1.1.0
+    (told (trip-refused a.size a.new.now lent e a.out.now _ c.write_chunk-wrote.ensures.value _ c.write_chunk-wrote.ensures.out_after
+    c.if-wrote-ne-OK.true)).1.1.0
 
 pub returns-then-wrote-ne-OK-clause-out_after : goal.returns-then-wrote-ne-OK-clause-out_after
 returns-then-wrote-ne-OK-clause-out_after c = let a = c.args in
     let lent = lent_board a.picture.now a.map.now in
     let e = (fine a.size a.new.now lent a.out.now _ c.board_fault-number.ensures c.if-number-ne-OK.false).1 in
-    (told (trip-refused a.size a.new.now lent e a.out.now _ c.write_chunk-wrote.ensures.value _ c.write_chunk-wrote.ensures.out_after c.if-wrote-ne-OK.true)).1.1.1
+    (told (trip-refused a.size a.new.now lent e a.out.now _ c.write_chunk-wrote.ensures.value _ c.write_chunk-wrote.ensures.out_after
+    c.if-wrote-ne-OK.true)).1.1.1
 
 pub slice_bounds-read_chunk-end : goal.slice_bounds-read_chunk-end
 slice_bounds-read_chunk-end c = let a = c.args in
@@ -64,7 +67,8 @@ pub slice_bounds-read_chunk-end-2 : goal.slice_bounds-read_chunk-end-2
 slice_bounds-read_chunk-end-2 c = let a = c.args in
     let lent = lent_board a.picture.now a.map.now in
     let e = (fine a.size a.new.now lent a.out.now _ c.board_fault-number.ensures c.if-number-ne-OK.false).1 in
-    sym (length-take-le _ _ (written-long a.size a.new.now lent e a.out.now _ c.write_chunk-wrote.ensures.value _ c.write_chunk-wrote.ensures.out_after (assumption c)))
+    sym (length-take-le _ _ (written-long a.size a.new.now lent e a.out.now _ c.write_chunk-wrote.ensures.value _
+    c.write_chunk-wrote.ensures.out_after (assumption c)))
 
 pub returns-clause-value : goal.returns-clause-value
 returns-clause-value c = let a = c.args in
@@ -73,7 +77,8 @@ returns-clause-value c = let a = c.args in
     let counted = c.count_unsettled-count.ensures
     ∙ counts-unsettled a.size e.0 a.map.now e.1.map in
     let r = rw (ap (λ (n : Count). n.unsettled) counted) at c.read_chunk-read.ensures in
-    let t = told (trip-written a.size a.new.now lent e.1 a.out.now _ c.write_chunk-wrote.ensures.value _ c.write_chunk-wrote.ensures.out_after (assumption c) e.0) in
+    let t = told (trip-written a.size a.new.now lent e.1 a.out.now _ c.write_chunk-wrote.ensures.value _ c.write_chunk-wrote.ensures.out_after
+    (assumption c) e.0) in
     r.answer_value ∙ t.0
 
 pub returns-clause-picture_after : goal.returns-clause-picture_after
@@ -83,7 +88,8 @@ returns-clause-picture_after c = let a = c.args in
     let counted = c.count_unsettled-count.ensures
     ∙ counts-unsettled a.size e.0 a.map.now e.1.map in
     let r = rw (ap (λ (n : Count). n.unsettled) counted) at c.read_chunk-read.ensures in
-    let t = told (trip-written a.size a.new.now lent e.1 a.out.now _ c.write_chunk-wrote.ensures.value _ c.write_chunk-wrote.ensures.out_after (assumption c) e.0) in
+    let t = told (trip-written a.size a.new.now lent e.1 a.out.now _ c.write_chunk-wrote.ensures.value _ c.write_chunk-wrote.ensures.out_after
+    (assumption c) e.0) in
     r.picture_after ∙ t.1.0
 
 pub returns-clause-map_after : goal.returns-clause-map_after
@@ -93,12 +99,14 @@ returns-clause-map_after c = let a = c.args in
     let counted = c.count_unsettled-count.ensures
     ∙ counts-unsettled a.size e.0 a.map.now e.1.map in
     let r = rw (ap (λ (n : Count). n.unsettled) counted) at c.read_chunk-read.ensures in
-    let t = told (trip-written a.size a.new.now lent e.1 a.out.now _ c.write_chunk-wrote.ensures.value _ c.write_chunk-wrote.ensures.out_after (assumption c) e.0) in
+    let t = told (trip-written a.size a.new.now lent e.1 a.out.now _ c.write_chunk-wrote.ensures.value _ c.write_chunk-wrote.ensures.out_after
+    (assumption c) e.0) in
     r.map_after ∙ t.1.1.0
 
 pub returns-clause-out_after : goal.returns-clause-out_after
 returns-clause-out_after c = let a = c.args in
     let lent = lent_board a.picture.now a.map.now in
     let e = fine a.size a.new.now lent a.out.now _ c.board_fault-number.ensures c.if-number-ne-OK.false in
-    let t = told (trip-written a.size a.new.now lent e.1 a.out.now _ c.write_chunk-wrote.ensures.value _ c.write_chunk-wrote.ensures.out_after (assumption c) e.0) in
+    let t = told (trip-written a.size a.new.now lent e.1 a.out.now _ c.write_chunk-wrote.ensures.value _ c.write_chunk-wrote.ensures.out_after
+    (assumption c) e.0) in
     t.1.1.1

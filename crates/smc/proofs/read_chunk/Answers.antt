@@ -1,7 +1,19 @@
 use Rattle.std.proofs.Common.{◌+◌, sym, refl, ap, ◌∙◌, arith}
 use Rattle.spec.specs.Maps.{record_of}
 use Rattle.spec.proofs.Limits.{allowed-size}
-use Rattle.smc.proofs.Reading.{fits-range, read-refused, size-allowed, map-exact, lent, read_keeps, is-accepted, read-miscounts, read-paints, kept_then, now-small}
+use Rattle.smc.proofs.Reading.{
+  fits-range,
+  read-refused,
+  size-allowed,
+  map-exact,
+  lent,
+  read_keeps,
+  is-accepted,
+  read-miscounts,
+  read-paints,
+  kept_then,
+  now-small,
+}
 use Rattle.smc.proofs.read_chunk.Goals as goal
 
 pub returns-then-number-ne-OK-clause-answer_value : goal.returns-then-number-ne-OK-clause-answer_value

@@ -13,12 +13,14 @@ paint-requires-clause-picture_len c = let a = c.args in
 
 pub returns-then-number-eq-OK-clause-value : goal.returns-then-number-eq-OK-clause-value
 returns-then-number-eq-OK-clause-value c = let a = c.args in
-    let e = frame-shown a.size a.picture.now a.file.now a.frame a.left a.top _ c.picture_fault-fault.ensures c.if-fault-ne-OK.false _ c.check-number.ensures c.if-number-eq-OK.true in
+    let e = frame-shown a.size a.picture.now a.file.now a.frame a.left a.top _ c.picture_fault-fault.ensures c.if-fault-ne-OK.false _
+    c.check-number.ensures c.if-number-eq-OK.true in
     rw e
 
 pub returns-else-number-eq-OK-clause-value : goal.returns-else-number-eq-OK-clause-value
 returns-else-number-eq-OK-clause-value c = let a = c.args in
-    let e = frame-kept a.size a.picture.now a.file.now a.frame a.left a.top _ c.picture_fault-fault.ensures c.if-fault-ne-OK.false _ c.check-number.ensures c.if-number-eq-OK.false in
+    let e = frame-kept a.size a.picture.now a.file.now a.frame a.left a.top _ c.picture_fault-fault.ensures c.if-fault-ne-OK.false _
+    c.check-number.ensures c.if-number-eq-OK.false in
     rw e
 
 pub returns-then-fault-ne-OK-clause-picture_after : goal.returns-then-fault-ne-OK-clause-picture_after
@@ -28,10 +30,12 @@ returns-then-fault-ne-OK-clause-picture_after c = let a = c.args in
 
 pub returns-then-number-eq-OK-clause-picture_after : goal.returns-then-number-eq-OK-clause-picture_after
 returns-then-number-eq-OK-clause-picture_after c = let a = c.args in
-    let e = frame-shown a.size a.picture.now a.file.now a.frame a.left a.top _ c.picture_fault-fault.ensures c.if-fault-ne-OK.false _ c.check-number.ensures c.if-number-eq-OK.true in
+    let e = frame-shown a.size a.picture.now a.file.now a.frame a.left a.top _ c.picture_fault-fault.ensures c.if-fault-ne-OK.false _
+    c.check-number.ensures c.if-number-eq-OK.true in
     rw (e, ← narrow a.left c.ranges.left, ← narrow a.top c.ranges.top) c.paint.ensures
 
 pub returns-else-number-eq-OK-clause-picture_after : goal.returns-else-number-eq-OK-clause-picture_after
 returns-else-number-eq-OK-clause-picture_after c = let a = c.args in
-    let e = frame-kept a.size a.picture.now a.file.now a.frame a.left a.top _ c.picture_fault-fault.ensures c.if-fault-ne-OK.false _ c.check-number.ensures c.if-number-eq-OK.false in
+    let e = frame-kept a.size a.picture.now a.file.now a.frame a.left a.top _ c.picture_fault-fault.ensures c.if-fault-ne-OK.false _
+    c.check-number.ensures c.if-number-eq-OK.false in
     rw e

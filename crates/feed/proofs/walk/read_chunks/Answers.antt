@@ -1,21 +1,23 @@
 use mathlib.Core.Path.{ap, ◌∙◌}
 use native.Mathlib.Omega.{arith}
 use Rattle.spec.specs.Boards.{Board}
-use Rattle.feed.proofs.Walking.{counted-more, counted_same, step-onward, walking_on, walking-over, walking-left}
+use Rattle.feed.proofs.Walking.{counted-more, counted_same, walking_on, walking-over, walking-left}
 use Rattle.feed.proofs.walk.read_chunks.Goals as goal
 
 pub loop-at-preserved-then-answer-eq-OK : goal.loop-at-preserved-then-answer-eq-OK
 loop-at-preserved-then-answer-eq-OK c = let inv = c.loop-at.invariant in (
   c.picture-1.given ∙ inv.0,
   c.map-1.given ∙ inv.1,
-  walking_on inv.2 c.step_behind-step.ensures.value c.if-step.true c.step_behind-step.ensures.picture_after c.step_behind-step.ensures.map_after _ (counted-more _ c.if-answer-eq-OK.true),
+  walking_on inv.2 c.step_behind-step.ensures.value c.if-step.true c.step_behind-step.ensures.picture_after c.step_behind-step.ensures.map_after _
+      (counted-more _ c.if-answer-eq-OK.true),
 )
 
 pub loop-at-preserved : goal.loop-at-preserved
 loop-at-preserved c = let inv = c.loop-at.invariant in (
   c.picture-1.given ∙ inv.0,
   c.map-1.given ∙ inv.1,
-  walking_on inv.2 c.step_behind-step.ensures.value c.if-step.true c.step_behind-step.ensures.picture_after c.step_behind-step.ensures.map_after _ (counted_same _ (omega arith)),
+  walking_on inv.2 c.step_behind-step.ensures.value c.if-step.true c.step_behind-step.ensures.picture_after c.step_behind-step.ensures.map_after _
+      (counted_same _ (omega arith)),
 )
 
 pub returns-else-step-clause-value : goal.returns-else-step-clause-value

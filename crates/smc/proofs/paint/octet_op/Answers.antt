@@ -18,5 +18,6 @@ pub returns : goal.returns
 returns c = let el = c.lead_at-lead.ensures in
     let en = c.entry_of-entry.ensures in
     let cs = c.colours_at-colours.ensures in
-    entry-tabled octets _ _ c.requires.room el c.requires.bound en c.requires.lent.canvas.wide c.requires.t_len (omega arith) _ _ _ _ (rw cs at c.octet_run.ensures.pic_after)
+    entry-tabled octets _ _ c.requires.room el c.requires.bound en c.requires.lent.canvas.wide c.requires.t_len (omega arith) _ _ _ _
+    (rw cs at c.octet_run.ensures.pic_after)
     c.octet_run.ensures.map_after

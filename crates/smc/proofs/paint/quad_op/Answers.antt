@@ -18,4 +18,5 @@ pub returns : goal.returns
 returns c = let el = c.lead_at-lead.ensures in
     let en = c.entry_of-entry.ensures in
     let cs = c.colours_at-colours.ensures in
-    entry-tabled quads _ _ c.requires.room el c.requires.bound en c.requires.lent.canvas.wide c.requires.t_len (omega arith) _ _ _ _ (rw cs at c.quad_run.ensures.pic_after) c.quad_run.ensures.map_after
+    entry-tabled quads _ _ c.requires.room el c.requires.bound en c.requires.lent.canvas.wide c.requires.t_len (omega arith) _ _ _ _
+    (rw cs at c.quad_run.ensures.pic_after) c.quad_run.ensures.map_after

@@ -1,4 +1,17 @@
-use Rattle.smc_check.proofs.Tallies.{reach-some, reach-two, even-two, one-small, two-small, product_small, pairs_small, now-most, kind-repeats, kind-pairs, notes-repeats, notes-pairs}
+use Rattle.smc_check.proofs.Tallies.{
+  reach-some,
+  reach-two,
+  even-two,
+  one-small,
+  two-small,
+  product_small,
+  pairs_small,
+  now-most,
+  kind-repeats,
+  kind-pairs,
+  notes-repeats,
+  notes-pairs,
+}
 use native.Mathlib.Omega.{arith}
 use Rattle.smc_check.proofs.count.copied.Goals as goal
 

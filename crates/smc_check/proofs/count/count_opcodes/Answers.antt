@@ -1,4 +1,16 @@
-use Rattle.smc_check.proofs.Behind.{along-begins, hinted-runs, hinted-bad, told-counts, balanced-bad, goes-on-counted, refused-remain, refused-follow, ends-ok, balanced-refused, balanced-ok}
+use Rattle.smc_check.proofs.Behind.{
+  along-begins,
+  hinted-runs,
+  hinted-bad,
+  told-counts,
+  balanced-bad,
+  goes-on-counted,
+  refused-remain,
+  refused-follow,
+  ends-ok,
+  balanced-refused,
+  balanced-ok,
+}
 use mathlib.Core.Path.{refl, sym, ◌∙◌}
 use native.Mathlib.Omega.{arith}
 use Rattle.smc_check.proofs.count.count_opcodes.Goals as goal

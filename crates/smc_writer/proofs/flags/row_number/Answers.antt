@@ -11,4 +11,10 @@ overflow_add-result c = let h = c.requires.n_bound in
 
 pub returns : goal.returns
 returns c = number-four c.args.n _ _ _ _
-    ∙ rw (four-pixels c.args.px.now c.args.at c.requires.at_in_bounds, c.entry_of.ensures.value, c.entry_of-2.ensures.value, c.entry_of-3.ensures.value, c.entry_of-4.ensures.value)
+    ∙ rw (
+      four-pixels c.args.px.now c.args.at c.requires.at_in_bounds,
+      c.entry_of.ensures.value,
+      c.entry_of-2.ensures.value,
+      c.entry_of-3.ensures.value,
+      c.entry_of-4.ensures.value,
+    )

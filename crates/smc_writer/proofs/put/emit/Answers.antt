@@ -5,11 +5,15 @@ use Rattle.smc_writer.proofs.Emitting.{emit-short, emit-fits}
 use Rattle.smc_writer.proofs.put.emit.Goals as goal
 
 pub returns-then-fits-clause-value : goal.returns-then-fits-clause-value
-returns-then-fits-clause-value c = let e = emit-fits _ _ c.args.out.now (leb-true _ _ (sym c.fits.ensures ∙ c.if-fits.true)) _ c.put_chunk-length.ensures.value _ c.put_chunk-length.ensures.out_after in
+returns-then-fits-clause-value c =
+    let e = emit-fits _ _ c.args.out.now (leb-true _ _ (sym c.fits.ensures ∙ c.if-fits.true)) _ c.put_chunk-length.ensures.value _
+    c.put_chunk-length.ensures.out_after in
     ap (λ (x : Wrote). x.answer) e
 
 pub returns-then-fits-clause-out_after : goal.returns-then-fits-clause-out_after
-returns-then-fits-clause-out_after c = let e = emit-fits _ _ c.args.out.now (leb-true _ _ (sym c.fits.ensures ∙ c.if-fits.true)) _ c.put_chunk-length.ensures.value _ c.put_chunk-length.ensures.out_after in
+returns-then-fits-clause-out_after c =
+    let e = emit-fits _ _ c.args.out.now (leb-true _ _ (sym c.fits.ensures ∙ c.if-fits.true)) _ c.put_chunk-length.ensures.value _
+    c.put_chunk-length.ensures.out_after in
     ap (λ (x : Wrote). x.output) e
 
 pub returns-clause-value : goal.returns-clause-value

@@ -34,8 +34,12 @@ loop-k-smaller c = let a = c.args in
 
 pub loop-k-preserved : goal.loop-k-preserved
 loop-k-preserved c = let s = c.loop-k in
-    let e : s.total - 4 + c.put_run-run.result.bytes ≡ s.total + c.put_run-run.result.bytes - 4 = omega (arith, s.invariant.1) in
-    (omega (arith, s.invariant.0), omega (arith, s.invariant.1), rw e at (progress-on s.invariant.2 (omega arith) c.put_run-run.ensures.blocks_value c.put_run-run.ensures.bytes_value))
+    let e : s.total - 4 + c.put_run-run.result.bytes ≡ s.total + c.put_run-run.result.bytes - 4 = omega (arith, s.invariant.1) in (
+      omega (arith, s.invariant.0),
+      omega (arith, s.invariant.1),
+      rw e at
+          (progress-on s.invariant.2 (omega arith) c.put_run-run.ensures.blocks_value c.put_run-run.ensures.bytes_value),
+    )
 
 pub returns : goal.returns
 returns c = let s = c.loop-k in

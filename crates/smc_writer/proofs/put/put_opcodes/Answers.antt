@@ -32,7 +32,8 @@ loop-k-smaller c = let a = c.args in
     omega arith
 
 pub loop-k-preserved : goal.loop-k-preserved
-loop-k-preserved c = laid_on c.loop-k.invariant (omega arith) c.put_run-run.ensures.blocks_value c.put_run-run.ensures.bytes_value c.put_run-run.ensures.out_after
+loop-k-preserved c =
+    laid_on c.loop-k.invariant (omega arith) c.put_run-run.ensures.blocks_value c.put_run-run.ensures.bytes_value c.put_run-run.ensures.out_after
 
 pub returns-clause-value : goal.returns-clause-value
 returns-clause-value c = (laid-all c.loop-k.invariant (omega arith)).0

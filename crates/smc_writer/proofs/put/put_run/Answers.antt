@@ -52,16 +52,27 @@ put_fill-bytes-requires-clause-colour_in_bounds c = let a = c.args in
 
 pub returns-then-is_plain-clause-bytes_value : goal.returns-then-is_plain-clause-bytes_value
 returns-then-is_plain-clause-bytes_value c = let run = c.run_at-blocks-then-is_plain in
-    rw (bytes-fill _ _ _ _ _ c.if-kept-k-ne0.false _ c.block_at-rows.ensures (sym c.is_plain.ensures ∙ c.if-is_plain.true), ← run.ensures, ← c.first_of.ensures) (c.put_fill-bytes.ensures.value)
+    rw (
+      bytes-fill _ _ _ _ _ c.if-kept-k-ne0.false _ c.block_at-rows.ensures (sym c.is_plain.ensures ∙ c.if-is_plain.true),
+      ← run.ensures,
+      ←
+          c.first_of.ensures,
+    ) (c.put_fill-bytes.ensures.value)
 
 pub returns-then-is_plain-clause-out_after : goal.returns-then-is_plain-clause-out_after
 returns-then-is_plain-clause-out_after c = let run = c.run_at-blocks-then-is_plain in
-    rw (bytes-fill _ _ _ _ _ c.if-kept-k-ne0.false _ c.block_at-rows.ensures (sym c.is_plain.ensures ∙ c.if-is_plain.true), ← run.ensures, ← c.first_of.ensures) (c.put_fill-bytes.ensures.out_after)
+    rw (
+      bytes-fill _ _ _ _ _ c.if-kept-k-ne0.false _ c.block_at-rows.ensures (sym c.is_plain.ensures ∙ c.if-is_plain.true),
+      ← run.ensures,
+      ←
+          c.first_of.ensures,
+    ) (c.put_fill-bytes.ensures.out_after)
 
 pub put_single-bytes-requires-clause-px_in_bounds : goal.put_single-bytes-requires-clause-px_in_bounds
 put_single-bytes-requires-clause-px_in_bounds c = let a = c.args in
     let q = c.pixels_of-px.ensures in
-    let e = bytes-single a.c (a.c * a.r) a.kept.now a.new.now a.k c.if-kept-k-ne0.false _ c.block_at-rows.ensures (sym c.is_plain.ensures ∙ c.if-is_plain.false) in
+    let e = bytes-single a.c (a.c * a.r) a.kept.now a.new.now a.k c.if-kept-k-ne0.false _ c.block_at-rows.ensures
+    (sym c.is_plain.ensures ∙ c.if-is_plain.false) in
     rw (e, ← q) at c.requires.k_in_bounds
 
 pub returns-clause-blocks_value : goal.returns-clause-blocks_value

@@ -6,7 +6,8 @@ use Rattle.smc_writer.proofs.Singles.{single-whole, some, single-pair, single-qu
 use Rattle.smc_writer.proofs.single.put_found.Goals as goal
 
 pub put_whole-requires-clause-in_bounds : goal.put_whole-requires-clause-in_bounds
-put_whole-requires-clause-in_bounds c = let e = ap length (single-whole c.requires.finds (omega arith)) in omega (arith, c.requires.px_in_bounds, c.requires.px_len)
+put_whole-requires-clause-in_bounds c =
+    let e = ap length (single-whole c.requires.finds (omega arith)) in omega (arith, c.requires.px_in_bounds, c.requires.px_len)
 
 pub returns-then-n-gt-MOST-clause-value : goal.returns-then-n-gt-MOST-clause-value
 returns-then-n-gt-MOST-clause-value c = rw (single-whole c.requires.finds (omega arith)) c.put_whole.ensures.value
@@ -21,7 +22,8 @@ repeat_greatest-requires-clause-le_n c = let few : c.args.n ≤ 8 = omega arith 
 pub put_tabled-requires-clause-bits_in_bounds : goal.put_tabled-requires-clause-bits_in_bounds
 put_tabled-requires-clause-bits_in_bounds c = let f = c.requires.finds in
     let few : c.args.n ≤ 8 = omega arith in
-    let t = by-table f few 1 c.repeat_greatest.new.list c.args.out.now (omega arith) (omega arith) c.repeat_greatest.ensures (single-pair f few (omega arith)) c.requires.px_in_bounds in
+    let t = by-table f few 1 c.repeat_greatest.new.list c.args.out.now (omega arith) (omega arith) c.repeat_greatest.ensures
+    (single-pair f few (omega arith)) c.requires.px_in_bounds in
     t.room
 
 pub returns-then-n-le2-clause-value : goal.returns-then-n-le2-clause-value
@@ -37,7 +39,8 @@ returns-then-n-le2-clause-out_after c = let f = c.requires.finds in
 pub put_tabled-requires-then-n-le4-clause-bits_in_bounds : goal.put_tabled-requires-then-n-le4-clause-bits_in_bounds
 put_tabled-requires-then-n-le4-clause-bits_in_bounds c = let f = c.requires.finds in
     let few : c.args.n ≤ 8 = omega arith in
-    let t = by-table f few 2 c.repeat_greatest.new.list c.args.out.now (omega arith) (omega arith) c.repeat_greatest.ensures (single-quad f few (omega arith) (omega arith)) c.requires.px_in_bounds in
+    let t = by-table f few 2 c.repeat_greatest.new.list c.args.out.now (omega arith) (omega arith) c.repeat_greatest.ensures
+    (single-quad f few (omega arith) (omega arith)) c.requires.px_in_bounds in
     t.room
 
 pub returns-then-n-le4-clause-value : goal.returns-then-n-le4-clause-value
@@ -53,7 +56,8 @@ returns-then-n-le4-clause-out_after c = let f = c.requires.finds in
 pub put_tabled-requires-2-clause-bits_in_bounds : goal.put_tabled-requires-2-clause-bits_in_bounds
 put_tabled-requires-2-clause-bits_in_bounds c = let f = c.requires.finds in
     let few : c.args.n ≤ 8 = omega arith in
-    let t = by-table f few 3 c.repeat_greatest.new.list c.args.out.now (omega arith) (omega arith) c.repeat_greatest.ensures (single-octet f few (omega arith)) c.requires.px_in_bounds in
+    let t = by-table f few 3 c.repeat_greatest.new.list c.args.out.now (omega arith) (omega arith) c.repeat_greatest.ensures
+    (single-octet f few (omega arith)) c.requires.px_in_bounds in
     t.room
 
 pub returns-clause-value : goal.returns-clause-value

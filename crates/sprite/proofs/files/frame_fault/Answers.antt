@@ -14,11 +14,31 @@ long-requires-then-frame-long c = omega (arith, table-whole c.args.s.now (sym c.
 
 pub returns-then-is_frame : goal.returns-then-is_frame
 unfolding frame_fault if
-returns-then-is_frame c = rw (← c.is_sprite.ensures, c.if-is_sprite.true, ← c.long.ensures.value, lt-ltb _ _ c.if-frame-long.true, ← c.long-then-frame-long.ensures.value, ← c.is_frame.ensures, c.if-is_frame.true)
+returns-then-is_frame c =
+    rw (
+      ← c.is_sprite.ensures,
+      c.if-is_sprite.true,
+      ← c.long.ensures.value,
+      lt-ltb _ _ c.if-frame-long.true,
+      ← c.long-then-frame-long.ensures.value,
+      ←
+          c.is_frame.ensures,
+      c.if-is_frame.true,
+    )
 
 pub returns-then-frame-long : goal.returns-then-frame-long
 unfolding frame_fault if
-returns-then-frame-long c = rw (← c.is_sprite.ensures, c.if-is_sprite.true, ← c.long.ensures.value, lt-ltb _ _ c.if-frame-long.true, ← c.long-then-frame-long.ensures.value, ← c.is_frame.ensures, c.if-is_frame.false)
+returns-then-frame-long c =
+    rw (
+      ← c.is_sprite.ensures,
+      c.if-is_sprite.true,
+      ← c.long.ensures.value,
+      lt-ltb _ _ c.if-frame-long.true,
+      ← c.long-then-frame-long.ensures.value,
+      ←
+          c.is_frame.ensures,
+      c.if-is_frame.false,
+    )
 
 pub returns-then-is_sprite : goal.returns-then-is_sprite
 unfolding frame_fault if

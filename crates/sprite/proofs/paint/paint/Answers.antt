@@ -30,4 +30,11 @@ returns c = let a = c.args in
     let left = c.from_least.ensures.value ∙ ap from_least (narrow a.left c.ranges.left) in
     let top = c.from_least-2.ensures.value ∙ ap from_least (narrow a.top c.ranges.top) in
     let e = at_position (frame a.s.now a.k).made a.size a.left a.top a.picture.now (low a.left c.ranges.left) (low a.top c.ranges.top) in
-    c.paint_rows.ensures ∙ rw (c.frame_at-frame.ensures.height_value, c.frame_at-frame.ensures.width_value, c.frame_at-frame.ensures.first_value, ← f, left, top) e
+    c.paint_rows.ensures ∙ rw (
+      c.frame_at-frame.ensures.height_value,
+      c.frame_at-frame.ensures.width_value,
+      c.frame_at-frame.ensures.first_value,
+      ← f,
+      left,
+      top,
+    ) e
