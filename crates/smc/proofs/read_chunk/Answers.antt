@@ -128,10 +128,10 @@ returns-then-miscounts-clause-map_after c = let a = c.args in
     rw e refl
 
 pub paint-requires-clause-lent : goal.paint-requires-clause-lent
-paint-requires-clause-lent c = let a = c.args in
+paint-requires-clause-lent c =
+    let a = c.args in
     let q = c.board_fault-number.ensures in
     let h = c.if-number-ne-OK.false in
-    let g = is-accepted a.kept.size a.chunk.now a.picture.now a.map.now a.kept.unsettled _ q h _ c.check-changed.ensures.answer_value (assumption c) in
     lent a.kept.size a.chunk.now a.picture.now a.map.now a.kept.unsettled _ q h
 
 pub paint-requires-clause-accepts : goal.paint-requires-clause-accepts
@@ -151,13 +151,13 @@ overflow_add-result c = let a = c.args in
     omega (arith, r.1, few)
 
 pub returns-clause-answer_value : goal.returns-clause-answer_value
-returns-clause-answer_value c = let a = c.args in
+returns-clause-answer_value c =
+    let a = c.args in
     let q = c.board_fault-number.ensures in
     let h = c.if-number-ne-OK.false in
     let g = is-accepted a.kept.size a.chunk.now a.picture.now a.map.now a.kept.unsettled _ q h _ c.check-changed.ensures.answer_value (assumption c) in
     let f = sym c.miscounts.ensures ∙ c.if-miscounts.false in
     let e = read-paints a.kept.size a.chunk.now a.picture.now a.map.now a.kept.unsettled _ q h g _ c.check-changed.ensures.balanced f in
-    let n = kept_then a.kept.size a.chunk.now a.picture.now a.map.now a.kept.unsettled _ q h g _ c.check-changed.ensures.balanced in
     rw e (rw g.is at c.check-changed.ensures.answer_value)
 
 pub returns-clause-kept_value : goal.returns-clause-kept_value
@@ -171,21 +171,21 @@ returns-clause-kept_value c = let a = c.args in
     rw e (ap (record_of a.kept.size) (sym n))
 
 pub returns-clause-picture_after : goal.returns-clause-picture_after
-returns-clause-picture_after c = let a = c.args in
+returns-clause-picture_after c =
+    let a = c.args in
     let q = c.board_fault-number.ensures in
     let h = c.if-number-ne-OK.false in
     let g = is-accepted a.kept.size a.chunk.now a.picture.now a.map.now a.kept.unsettled _ q h _ c.check-changed.ensures.answer_value (assumption c) in
     let f = sym c.miscounts.ensures ∙ c.if-miscounts.false in
     let e = read-paints a.kept.size a.chunk.now a.picture.now a.map.now a.kept.unsettled _ q h g _ c.check-changed.ensures.balanced f in
-    let n = kept_then a.kept.size a.chunk.now a.picture.now a.map.now a.kept.unsettled _ q h g _ c.check-changed.ensures.balanced in
     rw e (rw g.is at c.paint.ensures.pic_after)
 
 pub returns-clause-map_after : goal.returns-clause-map_after
-returns-clause-map_after c = let a = c.args in
+returns-clause-map_after c =
+    let a = c.args in
     let q = c.board_fault-number.ensures in
     let h = c.if-number-ne-OK.false in
     let g = is-accepted a.kept.size a.chunk.now a.picture.now a.map.now a.kept.unsettled _ q h _ c.check-changed.ensures.answer_value (assumption c) in
     let f = sym c.miscounts.ensures ∙ c.if-miscounts.false in
     let e = read-paints a.kept.size a.chunk.now a.picture.now a.map.now a.kept.unsettled _ q h g _ c.check-changed.ensures.balanced f in
-    let n = kept_then a.kept.size a.chunk.now a.picture.now a.map.now a.kept.unsettled _ q h g _ c.check-changed.ensures.balanced in
     rw e (rw g.is at c.paint.ensures.map_after)

@@ -21,8 +21,8 @@ loop-at-preserved c = let inv = c.loop-at.invariant in (
 )
 
 pub returns-else-step-clause-value : goal.returns-else-step-clause-value
-returns-else-step-clause-value c = let w = c.loop-at.invariant.2 in
-    let l = walking-left w c.step_behind-step.ensures.value c.if-step.false in
+returns-else-step-clause-value c =
+    let w = c.loop-at.invariant.2 in
     walking-over w c.step_behind-step.ensures.value c.if-step.false
 
 pub returns-else-step-clause-picture_after : goal.returns-else-step-clause-picture_after

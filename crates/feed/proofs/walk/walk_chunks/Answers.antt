@@ -13,17 +13,17 @@ returns-then-fault-ne-OK-clause-value c = let a = c.args in
     rw e ((λ i. record { answer = own i; accepted = 0; kept = a.kept }))
 
 pub returns-then-fault-ne-OK-clause-picture_after : goal.returns-then-fault-ne-OK-clause-picture_after
-returns-then-fault-ne-OK-clause-picture_after c = let a = c.args in
+returns-then-fault-ne-OK-clause-picture_after c =
+    let a = c.args in
     let cs = chunks_from (length a.feed.now) a.feed.now a.first in
     let e = chunks-refused a.kept.size cs (board a.picture.now a.map.now a.kept.unsettled) c.if-fault-ne-OK.true in
-    let own = c.refusal.ensures in
     rw e (refl)
 
 pub returns-then-fault-ne-OK-clause-map_after : goal.returns-then-fault-ne-OK-clause-map_after
-returns-then-fault-ne-OK-clause-map_after c = let a = c.args in
+returns-then-fault-ne-OK-clause-map_after c =
+    let a = c.args in
     let cs = chunks_from (length a.feed.now) a.feed.now a.first in
     let e = chunks-refused a.kept.size cs (board a.picture.now a.map.now a.kept.unsettled) c.if-fault-ne-OK.true in
-    let own = c.refusal.ensures in
     rw e (refl)
 
 pub returns-clause-value : goal.returns-clause-value

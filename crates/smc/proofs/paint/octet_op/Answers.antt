@@ -9,9 +9,9 @@ colours_at-colours-requires-clause-w_in_bounds_2 c = let el = c.lead_at-lead.ens
     c.requires.t_len (omega arith)
 
 pub octet_run-requires-clause-n_in_bounds : goal.octet_run-requires-clause-n_in_bounds
-octet_run-requires-clause-n_in_bounds c = let el = c.lead_at-lead.ensures in
+octet_run-requires-clause-n_in_bounds c =
+    let el = c.lead_at-lead.ensures in
     let en = c.entry_of-entry.ensures in
-    let cs = c.colours_at-colours.ensures in
     entry-inside octets _ _ c.requires.room el c.requires.bound en
 
 pub returns : goal.returns

@@ -63,10 +63,9 @@ counted-c-requires-clause-m_in_bounds c = let a = c.args in
     (omega (arith, t.room, c.requires.map_len.0), q.0)
 
 pub counted-c-requires-clause-far_le_k : goal.counted-c-requires-clause-far_le_k
-counted-c-requires-clause-far_le_k c = let a = c.args in
+counted-c-requires-clause-far_le_k c =
+    let a = c.args in
     let s = a.s.now in
-    let inv = c.loop-k.invariant in
-    let g = inv.2 in
     let t = hinted-runs a.blocks s _ _ _ _ _ _ _ c.in-Runs.is
     c.head_at-head.ensures in
     let q = told-counts a.blocks s _ _ _ _ _ _ t in

@@ -11,9 +11,9 @@ pub bounds-out-0 : goal.bounds-out-0
 bounds-out-0 c = let l = ap length (counting-short c.args.u c.args.m (omega arith)) in omega (arith, c.requires.m_in_bounds)
 
 pub returns-then-m-le16-clause-value : goal.returns-then-m-le16-clause-value
-returns-then-m-le16-clause-value c = let a = c.args in
+returns-then-m-le16-clause-value c =
+    let a = c.args in
     let e = counting-short a.u a.m (omega arith) in
-    let h : 0 < length a.out.now = (let l = ap length e in omega (arith, c.requires.m_in_bounds)) in
     rw e (refl)
 
 pub returns-then-m-le16-clause-out_after : goal.returns-then-m-le16-clause-out_after
@@ -32,9 +32,9 @@ bounds-out-1 c = let a = c.args in
     search rules
 
 pub returns-clause-value : goal.returns-clause-value
-returns-clause-value c = let a = c.args in
+returns-clause-value c =
+    let a = c.args in
     let e = counting-long a.u a.m (omega arith) in
-    let h : 1 < length a.out.now = (let l = ap length e in omega (arith, c.requires.m_in_bounds)) in
     rw e (refl)
 
 pub returns-clause-out_after : goal.returns-clause-out_after

@@ -16,9 +16,9 @@ put_counting-bytes-requires-clause-m_le_max_run c = let a = c.args in
     ran.most
 
 pub put_counting-bytes-requires-clause-m_in_bounds : goal.put_counting-bytes-requires-clause-m_in_bounds
-put_counting-bytes-requires-clause-m_in_bounds c = let a = c.args in
+put_counting-bytes-requires-clause-m_in_bounds c =
+    let a = c.args in
     let run = c.run_at-blocks in
-    let ran = rw (← run.ensures) at (ran a.c (a.c * a.r) a.kept.now a.new.now a.k c.requires.k_bound) in
     rw (bytes-skip a.c (a.c * a.r) a.kept.now a.new.now a.k c.if-kept-k-ne0.true, ← run.ensures) at c.requires.k_in_bounds
 
 pub returns-then-kept-k-ne0-clause-bytes_value : goal.returns-then-kept-k-ne0-clause-bytes_value
@@ -30,23 +30,23 @@ returns-then-kept-k-ne0-clause-out_after c = let run = c.run_at-blocks in
     rw (bytes-skip _ _ _ _ _ c.if-kept-k-ne0.true, ← run.ensures) (c.put_counting-bytes.ensures.out_after)
 
 pub put_fill-bytes-requires-clause-le_m : goal.put_fill-bytes-requires-clause-le_m
-put_fill-bytes-requires-clause-le_m c = let a = c.args in
+put_fill-bytes-requires-clause-le_m c =
+    let a = c.args in
     let run = c.run_at-blocks-then-is_plain in
     let ran = rw (← run.ensures) at (ran a.c (a.c * a.r) a.kept.now a.new.now a.k c.requires.k_bound) in
-    let e = bytes-fill a.c (a.c * a.r) a.kept.now a.new.now a.k c.if-kept-k-ne0.false _ c.block_at-rows.ensures (sym c.is_plain.ensures ∙ c.if-is_plain.true) in
     ran.some
 
 pub put_fill-bytes-requires-clause-m_le_max_run : goal.put_fill-bytes-requires-clause-m_le_max_run
-put_fill-bytes-requires-clause-m_le_max_run c = let a = c.args in
+put_fill-bytes-requires-clause-m_le_max_run c =
+    let a = c.args in
     let run = c.run_at-blocks-then-is_plain in
     let ran = rw (← run.ensures) at (ran a.c (a.c * a.r) a.kept.now a.new.now a.k c.requires.k_bound) in
-    let e = bytes-fill a.c (a.c * a.r) a.kept.now a.new.now a.k c.if-kept-k-ne0.false _ c.block_at-rows.ensures (sym c.is_plain.ensures ∙ c.if-is_plain.true) in
     ran.most
 
 pub put_fill-bytes-requires-clause-colour_in_bounds : goal.put_fill-bytes-requires-clause-colour_in_bounds
-put_fill-bytes-requires-clause-colour_in_bounds c = let a = c.args in
+put_fill-bytes-requires-clause-colour_in_bounds c =
+    let a = c.args in
     let run = c.run_at-blocks-then-is_plain in
-    let ran = rw (← run.ensures) at (ran a.c (a.c * a.r) a.kept.now a.new.now a.k c.requires.k_bound) in
     let e = bytes-fill a.c (a.c * a.r) a.kept.now a.new.now a.k c.if-kept-k-ne0.false _ c.block_at-rows.ensures (sym c.is_plain.ensures ∙ c.if-is_plain.true) in
     rw (e, ← run.ensures, ← c.first_of.ensures) at c.requires.k_in_bounds
 

@@ -61,7 +61,7 @@ returns c = let e = frame-ends c.loop-y.invariant.1 c.loop-y-test.false in
     c.check_marker.ensures ∙ sym (ap (λ (r : Ended (List Shade)). r.number) e)
 
 pub check_row-number-requires-clause-end_in_bounds : goal.check_row-number-requires-clause-end_in_bounds
-check_row-number-requires-clause-end_in_bounds c = let a = c.args in
+check_row-number-requires-clause-end_in_bounds c =
+    let a = c.args in
     let k = is-data a.s.now _ _ _ (row-head-told c.in-Data.is c.row_at.ensures) in
-    let h = k.head in
     k.within
