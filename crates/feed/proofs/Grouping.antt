@@ -7,7 +7,7 @@ use native.Mathlib.Omega.{arith}
 use lib.Dec.{leb}
 use lib.ListN.{length, get_or}
 use borrow.Author.Tests.{le-leb, lt-leb}
-use Rattle.spec.specs.declared.Varint.TheVariants.{Bad}
+use Rattle.spec.specs.Feeds.Varint.{Bad}
 use Rattle.spec.specs.Basics.{if}
 use Rattle.spec.specs.Answers.{bad_varint, feed_cut}
 use Rattle.spec.specs.Feeds.{last_group, groups, varint_at}

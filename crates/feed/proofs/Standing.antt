@@ -4,8 +4,8 @@ use mathlib.Core.Path.{◌≡◌}
 use mathlib.Core.List.{List}
 use lib.ListN.{length}
 use borrow.Author.Tests.{lt-ltb, le-ltb}
-use Rattle.spec.specs.declared.Varint.{Varint}
-use Rattle.spec.specs.declared.Varint.TheVariants.{Bad, Value}
+use Rattle.spec.specs.Feeds.{Varint}
+use Rattle.spec.specs.Feeds.Varint.{Bad, Value}
 use Rattle.spec.specs.Basics.{if}
 use Rattle.spec.specs.Answers.{feed_cut}
 use Rattle.spec.specs.Feeds.{varint_at, varint_says, whole, cut, chunk, end, next_at}

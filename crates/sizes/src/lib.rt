@@ -1,12 +1,12 @@
 // Which sizes are allowed, and the two refusals that every call looks for first. Anyone may call these with any numbers.
 #![tactic(auto)]
 
-ghost use Rattle.std.specs.Prelude.{◌≡◌, ◌&&◌, eqb};
-ghost use Rattle.spec.specs.Answers.{ok, bad_length};
+ghost use Rattle.std.specs.Prelude.{◌≡◌, ◌&&◌, true, eqb};
+ghost use Rattle.spec.specs.Answers.{ok, bad_length, number_of};
 ghost use Rattle.spec.specs.Basics.{if};
 ghost use Rattle.spec.specs.Sizes.{side, allowed, pixels, blocks, same_size, fault};
 
-use spec::{Answer, Size};
+use spec::{Refusal, Size};
 
 // Whether a picture's side may have this length, with `most` as its limit.
 fn is_side(most: usize, length: usize) -> bool
@@ -31,69 +31,65 @@ pub fn is_allowed(size: Size) -> bool
     false
 }
 
-// 2 where a length is not the exact one, or 0.
-fn length_fault(length: usize, exact: usize) -> u8
-    ensures { result ≡ if (eqb length exact) ok bad_length }
+// 1 for a size that is not allowed.
+pub fn check_size(size: Size) -> Result<(), Refusal>
+    ensures { number_of result ≡ fault size true }
+{
+    if is_allowed(size) {
+        return Ok(());
+    }
+    Err(Refusal::BadSize)
+}
+
+// 2 for a length that is not the exact one.
+pub fn check_length(length: usize, exact: usize) -> Result<(), Refusal>
+    ensures { number_of result ≡ if (eqb length exact) ok bad_length }
 {
     if length == exact {
-        return Answer::OK;
+        return Ok(());
     }
-    Answer::BAD_LENGTH
+    Err(Refusal::BadLength)
 }
 
-// 1, or 2 for a map of so many entries, or 0.
-pub fn map_fault(size: Size, entries: usize) -> u8
-    ensures { result ≡ fault size (eqb entries (blocks size)) }
+// 1, or 2 for a picture of so many bytes.
+pub fn check_picture(size: Size, bytes: usize) -> Result<(), Refusal>
+    ensures { number_of result ≡ fault size (eqb bytes (pixels size)) }
 {
-    if is_allowed(size) {
-        return length_fault(entries, size.width / 4 * (size.height / 4));
-    }
-    Answer::BAD_SIZE
+    check_size(size)?;
+    check_length(bytes, size.width * size.height)
 }
 
-// 1, or 2 for a picture of so many bytes and a map of so many entries, or 0.
-pub fn board_fault(size: Size, bytes: usize, entries: usize) -> u8
-    ensures { result ≡ fault size (eqb bytes (pixels size) && eqb entries (blocks size)) }
+// 1, or 2 for a map of so many entries.
+pub fn check_map(size: Size, entries: usize) -> Result<(), Refusal>
+    ensures { number_of result ≡ fault size (eqb entries (blocks size)) }
 {
-    if is_allowed(size) {
-        if bytes == size.width * size.height {
-            return map_fault(size, entries);
-        }
-        return Answer::BAD_LENGTH;
-    }
-    Answer::BAD_SIZE
+    check_size(size)?;
+    check_length(entries, size.width / 4 * (size.height / 4))
 }
 
-// Whether two sizes are one.
-fn is_same(one: Size, other: Size) -> bool
-    ensures { result ≡ same_size one other }
+// 1, or 2 for a picture of so many bytes and a map of so many entries.
+pub fn check_board(size: Size, bytes: usize, entries: usize) -> Result<(), Refusal>
+    ensures { number_of result ≡ fault size (eqb bytes (pixels size) && eqb entries (blocks size)) }
 {
-    one.width == other.width && one.height == other.height
+    check_picture(size, bytes)?;
+    check_map(size, entries)
 }
 
-// 1 for a feed's own size, or 2 where that is not the board's, or for a picture of so many bytes and a map of so many entries, or 0.
-pub fn feed_fault(own: Size, size: Size, bytes: usize, entries: usize) -> u8
-    ensures { result ≡ fault own (same_size own size && (eqb bytes (pixels own) && eqb entries (blocks own))) }
+// 1, or 2 for an old and a new picture of so many bytes.
+pub fn check_pictures(size: Size, old: usize, new: usize) -> Result<(), Refusal>
+    ensures { number_of result ≡ fault size (eqb old (pixels size) && eqb new (pixels size)) }
 {
-    if is_allowed(own) {
-        if is_same(own, size) {
-            return board_fault(own, bytes, entries);
-        }
-        return Answer::BAD_LENGTH;
-    }
-    Answer::BAD_SIZE
+    check_picture(size, old)?;
+    check_picture(size, new)
 }
 
-// 1, or 2 for an old and a new picture of so many bytes, or 0.
-pub fn pictures_fault(size: Size, old: usize, new: usize) -> u8
-    ensures { result ≡ fault size (eqb old (pixels size) && eqb new (pixels size)) }
+// 1 for a feed's own size, or 2 where that is not the board's, or for a picture of so many bytes and a map of so many entries.
+pub fn check_feed(own: Size, size: Size, bytes: usize, entries: usize) -> Result<(), Refusal>
+    ensures { number_of result ≡ fault own (same_size own size && (eqb bytes (pixels own) && eqb entries (blocks own))) }
 {
-    if is_allowed(size) {
-        let bytes = size.width * size.height;
-        if old == bytes {
-            return length_fault(new, bytes);
-        }
-        return Answer::BAD_LENGTH;
+    check_size(own)?;
+    if own != size {
+        return Err(Refusal::BadLength);
     }
-    Answer::BAD_SIZE
+    check_board(own, bytes, entries)
 }

@@ -9,8 +9,8 @@ use lib.ListN.{length}
 use lib.Dec.{ltb}
 use borrow.Author.Tests.{ltb-true, ltb-false, le-ltb}
 use Rattle.spec.specs.declared.Size.{Size}
-use Rattle.spec.specs.declared.Varint.{Varint}
-use Rattle.spec.specs.declared.Varint.TheVariants.{Bad, Value}
+use Rattle.spec.specs.Feeds.{Varint}
+use Rattle.spec.specs.Feeds.Varint.{Bad, Value}
 use Rattle.spec.specs.declared.Step.{Step}
 use Rattle.spec.specs.Basics.{if}
 use Rattle.spec.specs.Maps.{record_of}

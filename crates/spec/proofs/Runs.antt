@@ -7,8 +7,8 @@ use native.Mathlib.Omega.{arith}
 use lib.Dec.{leb, ltb, leb-suc-suc}
 use lib.ListN.{length, get_or, take, drop, length-drop}
 use lib.Seq.{get_or-drop, drop-drop}
-use Rattle.spec.specs.declared.Varint.{Varint}
-use Rattle.spec.specs.declared.Varint.TheVariants.{Bad, Value}
+use Rattle.spec.specs.Feeds.{Varint}
+use Rattle.spec.specs.Feeds.Varint.{Bad, Value}
 use Rattle.spec.specs.Basics.{fuelled, part}
 use Rattle.spec.specs.Feeds.{groups, varint_at, Ending, whole, cut, Next, chunk, end, chunk_at, next_at, Placed, Chunks, no_more, and_onward}
 use Rattle.spec.specs.Feeds.{chunks_from, chunks_of}

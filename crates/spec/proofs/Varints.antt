@@ -8,8 +8,8 @@ use native.Mathlib.Omega.{arith}
 use lib.Dec.{leb}
 use lib.ListN.{length, get_or}
 use borrow.Author.Tests.{ltb-false, leb-false}
-use Rattle.spec.specs.declared.Varint.{Varint}
-use Rattle.spec.specs.declared.Varint.TheVariants.{Bad, Value}
+use Rattle.spec.specs.Feeds.{Varint}
+use Rattle.spec.specs.Feeds.Varint.{Bad, Value}
 use Rattle.spec.specs.Answers.{ok, bad_varint, feed_cut}
 use Rattle.spec.specs.Feeds.{max_number, groups, varint_at, varint_says, SizeNumbers, failing, both, with_lines, with_columns, size_numbers}
 use Rattle.spec.proofs.Lists.{by-test}

@@ -1,6 +1,8 @@
 -- 01, "Numbered outcomes", and the numbers of later requests: the name of each, and what it is given for. Assumes nothing.
-use Rattle.std.specs.Prelude.{ℕ, zero, suc, ◌<◌, ◌≤◌}
+use Rattle.std.specs.Prelude.{ℕ, zero, suc, ◌<◌, ◌≤◌, Result, Ok, Err}
 use Rattle.spec.specs.declared.Answer.{Answer}
+use Rattle.spec.specs.declared.Refusal.{Refusal}
+use Rattle.spec.specs.declared.Refusal.TheVariants as Why
 
 -- accepted
 abbrev pub ok : ℕ
@@ -89,6 +91,34 @@ no_end_marker = 20
 -- the new count would fall below 0 or above the number of blocks
 abbrev pub bad_count : ℕ
 bad_count = 21
+
+-- "a definition sets out this paper's number" for each case of a refusal, which the code has as an enum; and of what succeeds or is refused
+abbrev pub refusal_number : Refusal → ℕ
+refusal_number Why.BadSize = bad_size
+refusal_number Why.BadLength = bad_length
+refusal_number Why.ChunkShort = chunk_short
+refusal_number Why.LengthDiffers = length_differs
+refusal_number Why.BlocksRemain = blocks_remain
+refusal_number Why.OpcodeCut = opcode_cut
+refusal_number Why.OpcodeUnknown = opcode_unknown
+refusal_number Why.NoneBefore = none_before
+refusal_number Why.PastLastBlock = past_last_block
+refusal_number Why.EntryEmpty = entry_empty
+refusal_number Why.BytesFollow = bytes_follow
+refusal_number Why.BadVarint = bad_varint
+refusal_number Why.FeedCut = feed_cut
+refusal_number Why.OutputShort = output_short
+refusal_number Why.BadSprite = bad_sprite
+refusal_number Why.NoSuchFrame = no_such_frame
+refusal_number Why.BadFrame = bad_frame
+refusal_number Why.BadRow = bad_row
+refusal_number Why.BadSegment = bad_segment
+refusal_number Why.NoEndMarker = no_end_marker
+refusal_number Why.BadCount = bad_count
+
+abbrev pub number_of : {A : Type 0} → Result A Refusal → ℕ
+number_of (Ok x) = ok
+number_of (Err why) = refusal_number why
 
 -- a number, a place, and the block at which it stopped
 abbrev pub answer_at : ℕ → ℕ → ℕ → Answer

@@ -1,15 +1,15 @@
 -- 01, "The house feed": numbers, a feed's size and its chunks, the walk, that of a run of chunks, and one step of both. Assumes nothing.
-use Rattle.std.specs.Prelude.{ℕ, zero, suc, ◌+◌, ◌-◌, ◌*◌, List, [], ◌∷◌, map, true, false, ◌&&◌, leb, ltb, eqb, length, get_or}
+use Rattle.std.specs.Prelude.{ℕ, zero, suc, ◌+◌, ◌-◌, ◌*◌, List, [], ◌∷◌, map, true, false, ◌&&◌, leb, ltb, eqb, length, get_or, Result, Ok, Err}
 use Rattle.spec.specs.declared.Answer.{Answer}
 use Rattle.spec.specs.declared.Size.{Size}
 use Rattle.spec.specs.declared.Tally.{Tally}
 use Rattle.spec.specs.declared.Record.{Record}
-use Rattle.spec.specs.declared.Varint.{Varint}
-use Rattle.spec.specs.declared.Varint.TheVariants.{Bad, Value}
+use Rattle.spec.specs.declared.Refusal.{Refusal}
+use Rattle.spec.specs.declared.Varint as Code
 use Rattle.spec.specs.declared.FeedSize.{FeedSize}
 use Rattle.spec.specs.declared.Step.{Step}
 use Rattle.spec.specs.Basics.{if, fuelled, part}
-use Rattle.spec.specs.Answers.{ok, bad_size, bad_varint, feed_cut, answer_at, answer, checked}
+use Rattle.spec.specs.Answers.{ok, bad_size, bad_varint, feed_cut, refusal_number, answer_at, answer, checked}
 use Rattle.spec.specs.Sizes.{allowed, blocks, same_size, size_of, fault}
 use Rattle.spec.specs.Maps.{record_of}
 use Rattle.spec.specs.Boards.{Board, Left, left, exact, read, in_turn}
@@ -17,6 +17,11 @@ use Rattle.spec.specs.Boards.{Board, Left, left, exact, read, in_turn}
 -- a number is not "above 16,777,215"
 abbrev pub max_number : ℕ
 max_number = 16777215
+
+-- A number as it is read at a place: 12 or 13; or its value, and the place after it
+pub data Varint : Type 0 where
+  Bad : ℕ → Varint
+  Value : ℕ → ℕ → Varint
 
 -- the last group b, worth `scale`, makes v with those before it: "last of several groups zero, 12; above 16,777,215, 12"
 abbrev pub last_group : ℕ → ℕ → ℕ → ℕ → Varint
@@ -39,6 +44,11 @@ varint_at s at = groups 4 1 0 s at
 abbrev pub varint_says : Varint → List ℕ
 varint_says (Bad e) = e ∷ []
 varint_says (Value v after) = ok ∷ v ∷ after ∷ []
+
+-- the same of the code's, where a refusal is an error
+abbrev pub varint_result : Result Code.Varint Refusal → List ℕ
+varint_result (Err why) = refusal_number why ∷ []
+varint_result (Ok x) = ok ∷ x.value ∷ x.after ∷ []
 
 -- How the chunks end: all bytes are used, at this place; or with this number, 12 or 13, at this place
 pub data Ending : Type 0 where

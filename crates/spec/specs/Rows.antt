@@ -4,8 +4,8 @@ use Prim.Native.String.{String}
 use Rattle.std.specs.Bool.{beq}
 use Rattle.spec.specs.declared.Answer.{Answer}
 use Rattle.spec.specs.declared.Size.{Size}
-use Rattle.spec.specs.declared.Varint.{Varint}
-use Rattle.spec.specs.declared.Varint.TheVariants.{Bad, Value}
+use Rattle.spec.specs.Feeds.{Varint}
+use Rattle.spec.specs.Feeds.Varint.{Bad, Value}
 use Rattle.spec.specs.Basics.{if, fuelled, same_by, same}
 use Rattle.spec.specs.Answers.{answer_at, answer, checked}
 use Rattle.spec.specs.Sizes.{blocks, max_blocks, same_size}

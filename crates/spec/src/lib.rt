@@ -1,6 +1,9 @@
 // The types that every function of the project answers with and is lent. What they mean is defined in specs/.
 #![tactic(auto)]
 
+ghost use Rattle.std.specs.Prelude.{◌≡◌, eqb};
+ghost use Rattle.spec.specs.Answers.{ok, answer, answer_at, refusal_number};
+
 // What a call answers: a number of paper 01's table, a place, and the block at which it stopped.
 #[repr(C)]
 #[derive(Clone, Copy)]
@@ -10,57 +13,106 @@ pub struct Answer {
     pub block: usize,
 }
 
-// Paper 01, "Numbered outcomes", and the numbers of later requests. specs/Answers.antt has the same names for the definitions.
 impl Answer {
-    // accepted
+    // accepted; a refusal has its own number
     pub const OK: u8 = 0;
+
+    // Accepted, at this place, with so many blocks.
+    pub fn accepted(place: usize, block: usize) -> Self
+        ensures { result ≡ answer_at ok place block }
+    {
+        Self {
+            number: Answer::OK,
+            place,
+            block,
+        }
+    }
+
+    // Refused, at this place and block.
+    pub fn refused(why: Refusal, place: usize, block: usize) -> Self
+        ensures { result ≡ answer_at (refusal_number why) place block }
+    {
+        Self {
+            number: why.number(),
+            place,
+            block,
+        }
+    }
+
+    pub fn is_ok(self) -> bool
+        ensures { result ≡ eqb self.number ok }
+    {
+        self.number == Answer::OK
+    }
+}
+
+// A refusal before anything has been come to: at place 0 and block 0.
+impl From<Refusal> for Answer {
+    ghost from_gives = { λ why a. a ≡ answer (refusal_number why) 0 };
+
+    fn from(why: Refusal) -> Answer {
+        Answer::refused(why, 0, 0)
+    }
+}
+
+// Why a call refuses: paper 01, "Numbered outcomes", and the numbers of later requests, in their order. specs/Answers.antt has the number of each.
+#[derive(Clone, Copy, PartialEq, Eq)]
+pub enum Refusal {
     // width or height not allowed
-    pub const BAD_SIZE: u8 = 1;
+    BadSize = 1,
     // a lent picture or map is not of the exact length, or a feed's size is not the record's
-    pub const BAD_LENGTH: u8 = 2;
+    BadLength,
     // chunk under 4 bytes
-    pub const CHUNK_SHORT: u8 = 3;
+    ChunkShort,
     // stated length differs from the bytes given
-    pub const LENGTH_DIFFERS: u8 = 4;
+    LengthDiffers,
     // bytes end before an opcode, blocks remain
-    pub const BLOCKS_REMAIN: u8 = 5;
+    BlocksRemain,
     // bytes end inside an opcode
-    pub const OPCODE_CUT: u8 = 6;
+    OpcodeCut,
     // opcode F
-    pub const OPCODE_UNKNOWN: u8 = 7;
+    OpcodeUnknown,
     // copy with no such block before
-    pub const NONE_BEFORE: u8 = 8;
+    NoneBefore,
     // opcode runs past the last block
-    pub const PAST_LAST_BLOCK: u8 = 9;
+    PastLastBlock,
     // entry not filled in this chunk
-    pub const ENTRY_EMPTY: u8 = 10;
+    EntryEmpty,
     // bytes follow the last block, and are no padding
-    pub const BYTES_FOLLOW: u8 = 11;
+    BytesFollow,
     // feed number badly formed
-    pub const BAD_VARINT: u8 = 12;
+    BadVarint,
     // feed ends inside a number or a chunk
-    pub const FEED_CUT: u8 = 13;
+    FeedCut,
     // output too short
-    pub const OUTPUT_SHORT: u8 = 14;
+    OutputShort,
     // a sprite file's head or offset table is cut short, or its version is another
-    pub const BAD_SPRITE: u8 = 15;
+    BadSprite,
     // there is no frame of this number
-    pub const NO_SUCH_FRAME: u8 = 16;
+    NoSuchFrame,
     // a frame's head is cut short, or one of its first two words is not zero
-    pub const BAD_FRAME: u8 = 17;
+    BadFrame,
     // a row's head is cut short, has another code, counts under 4, or goes past the height or the bytes
-    pub const BAD_ROW: u8 = 18;
+    BadRow,
     // a segment has another code, or goes past its row's count or the width
-    pub const BAD_SEGMENT: u8 = 19;
+    BadSegment,
     // the end marker does not follow the rows
-    pub const NO_END_MARKER: u8 = 20;
+    NoEndMarker,
     // the new count would fall below 0 or above the number of blocks
-    pub const BAD_COUNT: u8 = 21;
+    BadCount,
+}
+
+impl Refusal {
+    pub fn number(self) -> u8
+        ensures { result ≡ refusal_number self }
+    {
+        self as u8
+    }
 }
 
 // A picture's width and height in pixels.
 #[repr(C)]
-#[derive(Clone, Copy)]
+#[derive(Clone, Copy, PartialEq, Eq)]
 pub struct Size {
     pub width: usize,
     pub height: usize,
@@ -121,13 +173,11 @@ pub struct Tally {
     pub kept: Record,
 }
 
-// A house number, a varint, as it is read at a place.
+// A house number, a varint: its value, and the place after it.
 #[derive(Clone, Copy)]
-pub enum Varint {
-    // 12 or 13
-    Bad(u8),
-    // its value, and the place after it
-    Value(usize, usize),
+pub struct Varint {
+    pub value: usize,
+    pub after: usize,
 }
 
 impl Varint {
