@@ -88,8 +88,8 @@ pub fn check_feed(own: Size, size: Size, bytes: usize, entries: usize) -> Result
     ensures { number_of result ≡ fault own (same_size own size && (eqb bytes (pixels own) && eqb entries (blocks own))) }
 {
     check_size(own)?;
-    if own != size {
-        return Err(Refusal::BadLength);
+    if own == size {
+        return check_board(own, bytes, entries);
     }
-    check_board(own, bytes, entries)
+    Err(Refusal::BadLength)
 }

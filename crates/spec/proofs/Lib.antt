@@ -6,6 +6,7 @@ pub mod Fuel
 pub mod Places
 pub mod Blocks
 pub mod Limits
+pub mod Refusals
 pub mod Maps
 pub mod Origins
 pub mod Heads

@@ -123,6 +123,19 @@ pub fault-allowed : (z : Size) (t : Bool) → allowed z ≡ true → fault z t �
 unfolding fault if
 fault-allowed z t a = rw a
 
+-- of two tests the first that fails decides, and the second where the first is met
+pub fault-first : (z : Size) (a b : Bool) → fault z a ≢ ok → fault z (a && b) ≡ fault z a
+unfolding fault
+fault-first z a b = by (allowed z) a b
+  where
+    by : (l a b : Bool) → if l (if a ok bad_length) bad_size ≢ ok → if l (if (a && b) ok bad_length) bad_size ≡ if l (if a ok bad_length) bad_size
+    by true true b h = unfold if in absurd (h refl)
+    by true false b h = unfold if in refl
+    by false a b h = unfold if in refl
+
+pub fault-second : (z : Size) (a b : Bool) → fault z a ≡ ok → fault z (a && b) ≡ fault z b
+fault-second z a b e = rw (no-fault-both z a e).1
+
 -- two sizes that the test finds the same are one
 pub same_size_lem : (y z : Size) → same_size y z ≡ true → y ≡ z
 same_size_lem y z t =
