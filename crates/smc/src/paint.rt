@@ -124,7 +124,7 @@ fn turn(
     requires room { Room (grid.columns * grid.lines) s.now from.at from.k }
     ensures { Turned grid.columns grid.lines s.now from.at from.k tables.old pic.old map.old result.at result.k tables.new pic.new map.new }
 {
-    let upper = s[from.at] as usize / 16;
+    let upper = s[from.at] / 16;
     if 14 <= upper {
         return whole_op(grid, s, from, pic, map);
     }
