@@ -11,7 +11,7 @@ use Rattle.spec.specs.Basics.{if}
 use Rattle.spec.specs.Chunks.{kind_of, counted, times, once, each, upper_at, count_at, body_at}
 use Rattle.spec.proofs.Computed.{test_at, agree_at, at_most}
 use Rattle.spec.proofs.Lists.{by-test}
-use Rattle.smc_check.specs.Checking.{span_of}
+use Rattle.smc_check.specs.Tables.{span_of}
 
 pub times-small : (u : ℕ) → u < 16 → times (kind_of u) ≤ 2
 times-small = at_most (λ u. times (kind_of u)) 2 16 refl

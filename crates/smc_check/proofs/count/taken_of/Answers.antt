@@ -7,6 +7,6 @@ pub returns-then-touched-eq1 : goal.returns-then-touched-eq1
 unfolding taken_of if
 returns-then-touched-eq1 c = search cases
 
-pub returns : goal.returns
+pub returns-else-touched-eq1 : goal.returns-else-touched-eq1
 unfolding taken_of if
-returns c = search cases
+returns-else-touched-eq1 c = search cases
