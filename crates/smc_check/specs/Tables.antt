@@ -1,5 +1,5 @@
 -- What an opcode's first byte says by itself. Assumes nothing.
-use Rattle.std.specs.Prelude.{ℕ, ◌+◌, ◌*◌, ◌/◌, ◌%◌, ◌≡◌, Bool, ltb, not}
+use Rattle.std.specs.Prelude.{ℕ, ◌+◌, ◌*◌, ◌/◌, ◌%◌, ◌<◌, ◌≡◌, List, Bool, false, ltb, not, get_or}
 use Rattle.spec.specs.Basics.{if}
 use Rattle.spec.specs.Chunks.{kind_of, counted, times, reach, once, each}
 use Rattle.smc_check.specs.declared.tables.Row.{Row}
@@ -20,3 +20,13 @@ pub record Asks (u : ℕ) (r : Row) : Type 0 where
   pub reach : r.reach ≡ reach (kind_of u)
   pub once : r.once ≡ once (kind_of u)
   pub touches : r.touches ≡ touches u
+
+-- tables of them, and of opcodes' lengths
+abbrev pub no_row : Row
+no_row = record { times = 0; reach = 0; once = 0; touches = false }
+
+abbrev pub Rows : List Row → Type 0
+Rows l = (u : ℕ) → u < 16 → Asks u (get_or l u no_row)
+
+abbrev pub Spans : List ℕ → Type 0
+Spans l = (b : ℕ) → b < 256 → get_or l b 0 ≡ span_of b

@@ -9,6 +9,7 @@ ghost use Rattle.spec.specs.Chunks.{kind_of, times, reach, padding, decode, refu
 ghost use Rattle.smc_check.specs.Going.{Made, Advances, Staying, Concludes};
 
 use crate::here::{Here, Run};
+use crate::tables::Tables;
 use spec::{Answer, Refusal};
 
 // What goes along with the check from opcode to opcode: the count's change, or nothing.
@@ -26,7 +27,7 @@ pub trait Along: Copy {
         requires tallied { Made (tallies self) k }
         requires fits { (k + run.blocks ≤ room self) × (1 ≤ run.blocks) }
         requires reached { (reach (kind_of run.upper) ≤ k) × (run.blocks % times (kind_of run.upper) ≡ 0) }
-        ensures advances { Advances (tallies self) (tallies result) run.upper k run.blocks }
+        ensures advances { Advances (tallies self) (tallies result) run.entry.upper k run.entry.blocks }
         ensures stays { (map result ≡ map self) × (room result ≡ room self) };
 }
 
@@ -69,6 +70,7 @@ fn check_opcodes<A: Along>(blocks: usize, s: &[u8], mut along: A) -> Result<Used
     requires begun { A.tallies along [] }
     ensures { Concludes (Staying A.map A.tallies (A.map along)) blocks s.now result (decode blocks s.now) }
 {
+    let tables = Tables::new();
     let len = s.len();
     let mut at = 4;
     let mut k = 0;
@@ -78,6 +80,7 @@ fn check_opcodes<A: Along>(blocks: usize, s: &[u8], mut along: A) -> Result<Used
             return Err(Answer::refused(Refusal::BlocksRemain, len, k));
         }
         let here = Here {
+            tables: &tables,
             blocks,
             s,
             at,

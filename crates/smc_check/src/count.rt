@@ -10,7 +10,7 @@ ghost use Rattle.smc_check.specs.Tallying.{StandsAt, Tallied, Owing, Notes, Take
 
 use crate::check::Along;
 use crate::here::Run;
-use crate::{check, tables};
+use crate::check;
 use spec::{Answer, SETTLED};
 
 // What is remembered of a block: settled by now, skipped and so as it was lent, or unsettled by now.
@@ -114,6 +114,13 @@ impl Running {
     {
         self.one == Block::Settled && self.two == Block::Settled
     }
+
+    // How far back they are: a number, so that one test tells whether an opcode reaches further.
+    fn settled_back(self) -> u8
+        ensures { result ≡ if (is_settled self) 2 0 }
+    {
+        if self.is_settled() { 2 } else { 0 }
+    }
 }
 
 impl<'a> Counter<'a> {
@@ -141,7 +148,7 @@ impl<'a> Counter<'a> {
         requires fits { (k + run.blocks ≤ length self.map.now) × (1 ≤ run.blocks) }
         requires copies { (2 ≤ run.upper) × (run.upper < 6) }
         requires reached { (reach (kind_of run.upper) ≤ k) × (run.blocks % times (kind_of run.upper) ≡ 0) }
-        ensures { Notes self.entry.map.now run.upper k run.blocks self.entry.t result }
+        ensures { Notes self.entry.map.now run.entry.upper k run.entry.blocks self.entry.t result }
     {
         let t = self.t;
         let m = run.blocks;
@@ -169,14 +176,13 @@ impl<'a> Counter<'a> {
         requires tallied { Tallied self.map.now k self.t }
         requires fits { (k + run.blocks ≤ length self.map.now) × (1 ≤ run.blocks) }
         requires reached { (reach (kind_of run.upper) ≤ k) × (run.blocks % times (kind_of run.upper) ≡ 0) }
-        ensures { Notes self.entry.map.now run.upper k run.blocks self.entry.t result }
+        ensures { Notes self.entry.map.now run.entry.upper k run.entry.blocks self.entry.t result }
     {
         let t = self.t;
-        let row = tables::row_of(run.upper);
-        if 0 < row.reach && !t.is_settled() {
+        if t.settled_back() < run.row.reach {
             return self.copied(run, k);
         }
-        let left = Block::left(row.touches);
+        let left = Block::left(run.row.touches);
         Running {
             one: left,
             two: second_of(t.one, left, run.blocks),
@@ -232,9 +238,8 @@ impl<'a> Along for Counter<'a> {
     fn past(self, run: Run, k: usize) -> Self {
         let map = self.map;
         let t = self.noted(run, k);
-        let row = tables::row_of(run.upper);
         let noted = Counter { map, t };
-        let t = noted.taken(k, touched(row.touches, run.blocks));
+        let t = noted.taken(k, touched(run.row.touches, run.blocks));
         Counter { map, t }
     }
 }

@@ -1,14 +1,17 @@
 // Where the check stands, and the opcode there.
 ghost use Rattle.std.specs.Prelude.{ℕ, ◌<◌, length, get_or};
+ghost use Rattle.smc_check.specs.Tables.{Asks};
 
+use crate::heads;
 use crate::heads::Lead;
-use crate::{heads, tables};
+use crate::tables::{Row, Tables};
 use spec::Refusal;
 
 // The next opcode is s[at]; k of the blocks have had their turn; f says how often each opcode has come, by its upper half-byte: 8, A and C store an
 // entry each time.
 #[derive(Clone, Copy)]
-pub struct Here<'a> {
+pub struct Here<'t, 'a> {
+    pub tables: &'t Tables,
     pub blocks: usize,
     pub s: &'a [u8],
     pub at: usize,
@@ -19,16 +22,18 @@ pub struct Here<'a> {
     ghost block_waits: { k < blocks },
 }
 
-// An opcode that may run: its upper half-byte, how many blocks it makes, and the place of the next opcode.
+// An opcode that may run: its upper half-byte and what that asks for, how many blocks it makes, and the place of the next opcode.
 #[derive(Clone, Copy)]
-pub struct Run {
+pub struct Run<'t> {
     pub upper: usize,
+    pub row: &'t Row,
     pub blocks: usize,
     pub next: usize,
     ghost known: { upper < 15 },
+    ghost asks: { Asks upper row.now },
 }
 
-impl<'a> Here<'a> {
+impl<'t, 'a> Here<'t, 'a> {
     ghost use Rattle.std.specs.Prelude.{◌≡◌, ◌+◌, ◌≤◌};
     ghost use Rattle.spec.specs.Chunks.{kind_of, once, missing};
     ghost use Rattle.smc_check.specs.Checking.{Stands, Ends, naming, fills_of, Tells, Refuses};
@@ -49,12 +54,12 @@ impl<'a> Here<'a> {
     }
 
     // An opcode whose bytes are all there, so many of them.
-    fn whole(self, span: usize) -> Result<Run, Refusal>
+    fn whole(self, span: usize) -> Result<Run<'t>, Refusal>
         requires { Stands self.s.now self.at span }
         ensures { Tells self.entry result }
     {
         let lead = heads::lead_at(self.s, self.at);
-        let row = tables::row_of(lead.upper);
+        let row = self.tables.row_of(lead.upper);
         let m = usize::from(row.times) * lead.count;
         if lead.upper == 15 {
             return Err(Refusal::OpcodeUnknown);
@@ -70,6 +75,7 @@ impl<'a> Here<'a> {
         }
         Ok(Run {
             upper: lead.upper,
+            row,
             blocks: m,
             next: self.at + span,
         })
@@ -87,7 +93,7 @@ impl<'a> Here<'a> {
             return Refusal::OpcodeCut;
         }
         let lead = heads::lead_at(self.s, self.at);
-        let row = tables::row_of(lead.upper);
+        let row = self.tables.row_of(lead.upper);
         if self.k < usize::from(row.reach) {
             return Refusal::NoneBefore;
         }
@@ -104,10 +110,10 @@ impl<'a> Here<'a> {
     }
 
     // The opcode here, or why it is refused.
-    pub fn opcode(self) -> Result<Run, Refusal>
+    pub fn opcode(self) -> Result<Run<'t>, Refusal>
         ensures { Tells self.entry result }
     {
-        let span = tables::span_of(self.s[self.at]);
+        let span = self.tables.span_of(self.s[self.at]);
         if self.s.len() - self.at < span {
             return Err(self.cut());
         }

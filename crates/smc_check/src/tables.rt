@@ -1,6 +1,6 @@
-// What an opcode's first byte says by itself. The tables are statics: constants, indexed in place, would be made anew each time.
+// What an opcode's first byte says by itself.
 ghost use Rattle.std.specs.Prelude.{◌≡◌, ◌<◌};
-ghost use Rattle.smc_check.specs.Tables.{span_of, Asks};
+ghost use Rattle.smc_check.specs.Tables.{span_of, Asks, Rows, Spans};
 
 // What an upper half-byte asks for.
 #[derive(Clone, Copy)]
@@ -74,8 +74,8 @@ impl Row {
     };
 }
 
-// 01's table, 0 to E, in order; F is none
-static ROWS: [Row; 16] = [
+// 01's table, 0 to E, in order; F is none. An upper half-byte is a number because the table goes by it.
+const ROWS: [Row; 16] = [
     Row::SKIP,
     Row::SKIP,
     Row::COPY,
@@ -94,17 +94,9 @@ static ROWS: [Row; 16] = [
     Row::PAINT_0,
 ];
 
-// The upper half-byte is a number because 01's table goes by it.
-pub fn row_of(upper: usize) -> &'static Row
-    requires { upper < 16 }
-    ensures { Asks upper result.now }
-{
-    &ROWS[upper]
-}
-
 // How many bytes an opcode takes in all: one with a count byte has no bytes for each block. So the check pass need not know an opcode's count
 // before it looks at the next one. Sixteen numbers for each upper half-byte, 0 to F
-static SPANS: [u16; 256] = [
+const SPANS: [u16; 256] = [
     1, 1, 1, 1, 1, 1, 1, 1, 1, 1, 1, 1, 1, 1, 1, 1, 2, 2, 2, 2, 2, 2, 2, 2, 2, 2, 2, 2, 2, 2, 2, 2,
     1, 1, 1, 1, 1, 1, 1, 1, 1, 1, 1, 1, 1, 1, 1, 1, 2, 2, 2, 2, 2, 2, 2, 2, 2, 2, 2, 2, 2, 2, 2, 2,
     1, 1, 1, 1, 1, 1, 1, 1, 1, 1, 1, 1, 1, 1, 1, 1, 2, 2, 2, 2, 2, 2, 2, 2, 2, 2, 2, 2, 2, 2, 2, 2,
@@ -117,8 +109,33 @@ static SPANS: [u16; 256] = [
     1, 1, 1, 1, 1, 1, 1, 1,
 ];
 
-pub fn span_of(opcode: u8) -> usize
-    ensures { result ≡ span_of opcode }
-{
-    usize::from(SPANS[usize::from(opcode)])
+// The two tables, which the loop holds and lends: indexed in place they would be made anew each time, and as statics they take the loop a register.
+#[derive(Drop)]
+pub struct Tables {
+    rows: [Row; 16],
+    spans: [u16; 256],
+    ghost rows_hold: { Rows rows },
+    ghost spans_hold: { Spans spans },
+}
+
+impl Tables {
+    pub fn new() -> Self {
+        Tables {
+            rows: ROWS,
+            spans: SPANS,
+        }
+    }
+
+    pub fn row_of(&self, upper: usize) -> &Row
+        requires { upper < 16 }
+        ensures { Asks upper result.now }
+    {
+        &self.rows[upper]
+    }
+
+    pub fn span_of(&self, opcode: u8) -> usize
+        ensures { result ≡ span_of opcode }
+    {
+        usize::from(self.spans[usize::from(opcode)])
+    }
 }

@@ -8,12 +8,12 @@ pub taken-t-requires : goal.taken-t-requires
 unfolding touched
 taken-t-requires c = let a = c.args in
     let r = a.run in
-    let e : c.touched.result ≡ touched r.upper r.blocks = rw (← c.row_of-row.ensures.touches) c.touched.ensures in
+    let e : c.touched.result ≡ touched r.upper r.blocks = rw (← a.run.asks.touches) c.touched.ensures in
     record { owing = rw e (owing-noted a.self.map.now r.upper a.k r.blocks a.self.t _ c.requires.fits.0 c.requires.fits.1 c.requires.tallied c.noted-t.ensures) }
 
 pub returns-clause-advances : goal.returns-clause-advances
 unfolding touched
 returns-clause-advances c = let a = c.args in
     let r = a.run in
-    let e : c.touched.result ≡ touched r.upper r.blocks = rw (← c.row_of-row.ensures.touches) c.touched.ensures in
+    let e : c.touched.result ≡ touched r.upper r.blocks = rw (← a.run.asks.touches) c.touched.ensures in
     counts-both a.self.map.now r.upper a.k r.blocks a.self.t _ _ c.requires.fits.0 c.noted-t.ensures (rw e at c.taken-t.ensures)

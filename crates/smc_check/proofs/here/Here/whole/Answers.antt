@@ -63,8 +63,8 @@ returns-then-is_missing c = let el = c.lead_at-lead.ensures in
     (c.from-2.ensures ∙ c.row_of-row.ensures.reach) (omega arith) _ (c.from.ensures ∙ c.row_of-row.ensures.times) (omega arith)
     (stands-once c.requires byte el) (sym c.is_missing.ensures ∙ c.if-is_missing.true))
 
-pub invariant_of-result : goal.invariant_of-result
-invariant_of-result c = let known = upper-small c.lead_at-lead.ensures (c.args.self.bytes c.args.self.at) in
+pub invariant_of-result-clause-known : goal.invariant_of-result-clause-known
+invariant_of-result-clause-known c = let known = upper-small c.lead_at-lead.ensures (c.args.self.bytes c.args.self.at) in
     omega (arith, known, c.if-lead-eq15.false)
 
 pub returns : goal.returns
