@@ -90,9 +90,9 @@ fn check_opcodes<A: Along>(blocks: usize, s: &[u8], mut along: A) -> Result<Used
         match here.opcode() {
             Err(why) => return Err(Answer::refused(why, at, k)),
             Ok(run) => {
-                along = along.past(run, k);
                 f[run.upper] += 1;
                 at = run.next;
+                along = along.past(run, k);
                 k += run.blocks;
             }
         }
