@@ -30,7 +30,6 @@ use Rattle.smc_check.specs.Tallying.{
   copied,
   touched,
   second_of,
-  taken_of,
   Standing,
   StandsAt,
   Tallied,
@@ -236,9 +235,9 @@ module _ (m : List ℕ) where
       rw (two, copies-pair (2 * n) made e.some) (record { size = g.size ∙ omega arith; opens = g.opens ∙ omega arith }, rest.1)
 
 -- the entries of no block, or of one
-owed-few : (m : List ℕ) (k w : ℕ) → w ≤ 1 → open_in m k w ≡ taken_of w (is_open (get_or m k 0))
-unfolding taken_of open_in if
-owed-few m k zero h = refl
+owed-few : (m : List ℕ) (k w : ℕ) → w ≤ 1 → open_in m k w ≡ w * is_open (get_or m k 0)
+unfolding open_in
+owed-few m k zero h = omega arith
 owed-few m k (suc zero) h = rw (add-zero k) (omega arith)
 owed-few m k (suc (suc w)) h = absurd (omega (arith, h))
 
@@ -373,7 +372,7 @@ module _ (m : List ℕ) where
   -- that run
   module _ (made : List Origin) (now : ℕ) (one two : Block) (lo hi k w : ℕ) (inside : k + w ≤ length made) (most : length made ≤ length m)
       (t : Standing m made now one two lo hi (open_in m k w)) where
-    pub takes-few : w ≤ 1 → Standing m made (now - taken_of w (is_open (get_or m k 0))) one two lo hi 0
+    pub takes-few : w ≤ 1 → Standing m made (now - w * is_open (get_or m k 0)) one two lo hi 0
     takes-few h =
         let left = enough made now one two lo hi _ t most in
         let b = t.balance in
@@ -536,16 +535,25 @@ touches-some : (u : ℕ) → 2 ≤ u → touches u ≡ true
 touches-some u h = rw (le-ltb u 2 h)
 
 touched-none : (u w : ℕ) → u < 2 → touched u w ≡ 0
-unfolding touched if
-touched-none u w h = rw (touches-none u h)
+unfolding touched
+touched-none u w h = rw (touches-none u h) (omega arith)
 
 touched-all : (u w : ℕ) → 2 ≤ u → touched u w ≡ w
-unfolding touched if
-touched-all u w h = rw (touches-some u h)
+unfolding touched
+touched-all u w h = rw (touches-some u h) (omega arith)
 
 touched-most : (u w : ℕ) → touched u w ≤ w
 unfolding touched
-touched-most u w = by-test (λ (x : ℕ). x ≤ w) (touches u) (λ t. omega arith) (λ t. omega arith)
+touched-most u w = by (touches u)
+  where
+    by : (b : Bool) → bit b * w ≤ w
+    by true = omega arith
+    by false = omega arith
+
+-- as the code makes it
+pub touched-by : (u w : ℕ) (b : Bool) → b ≡ touches u → (x : ℕ) → x ≡ bool_byte b → x * w ≡ touched u w
+unfolding touched
+touched-by u w b e x ex = rw (ex, byte-bit, e)
 
 -- one law for each way out of the code's step
 module _ (m : List ℕ) (u k w : ℕ) (t : Running) (known : u < 15) (some : 1 ≤ w) (even : w % times (kind_of u) ≡ 0) (far : reach (kind_of u) ≤ k) where
@@ -622,7 +630,7 @@ module _ (m : List ℕ) (k w : ℕ) (t : Running) (g : Owing m k w t) where
   pub owing-lo-hi : (t.lo ≤ t.hi) × (t.hi ≤ length m)
   owing-lo-hi = let past = g.tally.past in let most = g.most in (g.tally.begin, omega (arith, past, most))
 
-  pub owing-few : w ≤ 1 → taken_of w (is_open (get_or m k 0)) ≤ t.now
+  pub owing-few : w ≤ 1 → w * is_open (get_or m k 0) ≤ t.now
   owing-few h = let e = owed-few m k w h in omega (arith, e, owing-least)
 
 module _ (m : List ℕ) (u k w : ℕ) (t : Running) (some : 1 ≤ w) where
@@ -649,7 +657,7 @@ product_small w (suc (suc x)) h = absurd (omega (arith, h))
 
 -- the second step's ways out
 module _ (m : List ℕ) (k w : ℕ) (t : Running) where
-  pub taken-few : w ≤ 1 → Takes m k w t (record { now = t.now - taken_of w (is_open (get_or m k 0)); one = t.one; two = t.two; lo = t.lo; hi = t.hi })
+  pub taken-few : w ≤ 1 → Takes m k w t (record { now = t.now - w * is_open (get_or m k 0); one = t.one; two = t.two; lo = t.lo; hi = t.hi })
   taken-few h made inside most g = takes-few m made _ _ _ _ _ k w inside most g h
 
   pub taken-on : t.hi ≡ k → Takes m k w t (record { now = t.now; one = t.one; two = t.two; lo = t.lo; hi = k + w })

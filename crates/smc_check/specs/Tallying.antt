@@ -68,7 +68,7 @@ pub record Owing (m : List ℕ) (k w : ℕ) (t : Running) : Type 0 where
 
 -- of w blocks, how many an opcode of upper half-byte u touches
 unfoldable pub touched : ℕ → ℕ → ℕ
-touched u w = if (touches u) w 0
+touched u w = bit (touches u) * w
 
 -- What an opcode of upper half-byte u, for w blocks from block k on, makes of the numbers, whatever was made: they tally again, when the
 -- entries that it touches are owed; then with those taken away; and both
@@ -100,9 +100,6 @@ is_settled t = both t.one t.two
 
 unfoldable pub second_of : Block → Block → ℕ → Block
 second_of one code w = if (eqb w 1) one code
-
-unfoldable pub taken_of : ℕ → ℕ → ℕ
-taken_of touched first = if (eqb touched 1) first 0
 
 -- where it starts, and what it has counted in the end
 abbrev pub begun : ℕ → Running

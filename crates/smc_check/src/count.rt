@@ -5,7 +5,7 @@ ghost use Rattle.spec.specs.Basics.{if};
 ghost use Rattle.spec.specs.Sizes.{max_blocks};
 ghost use Rattle.spec.specs.Maps.{unsettled};
 ghost use Rattle.spec.specs.Chunks.{kind_of, times, reach, decode, verdict};
-ghost use Rattle.smc_check.specs.Tallying.{bit, opened, left, copied, second_of, taken_of, is_settled, begun, summed};
+ghost use Rattle.smc_check.specs.Tallying.{bit, opened, left, copied, second_of, is_settled, begun, summed};
 ghost use Rattle.smc_check.specs.Tallying.{StandsAt, Tallied, Owing, Notes, Takes, Balanced};
 
 use crate::check::Along;
@@ -80,19 +80,6 @@ fn second_of(one: Block, left: Block, m: usize) -> Block
     ensures { result ≡ second_of one left m }
 {
     if m == 1 { one } else { left }
-}
-
-// Of one block touched, or of none. The entry is read for both, so that nothing is guessed at run time.
-fn taken_of(touched: usize, first: usize) -> usize
-    ensures { result ≡ taken_of touched first }
-{
-    if touched == 1 { first } else { 0 }
-}
-
-fn touched(touches: bool, m: usize) -> usize
-    ensures { result ≡ if touches m 0 }
-{
-    if touches { m } else { 0 }
 }
 
 // How many entries of a part of the map are not the mark: in 16 bits, an entry's own type, so that they are added up many at a time.
@@ -198,9 +185,9 @@ impl<'a> Counter<'a> {
     {
         let t = self.t;
         if touched < 2 {
-            let first = usize::from(self.map[k] != SETTLED);
+            // a product, not a choice, so that nothing is guessed at run time
             return Running {
-                now: t.now - taken_of(touched, first),
+                now: t.now - touched * usize::from(self.map[k] != SETTLED),
                 ..t
             };
         }
@@ -239,7 +226,7 @@ impl<'a> Along for Counter<'a> {
         let map = self.map;
         let t = self.noted(run, k);
         let noted = Counter { map, t };
-        let t = noted.taken(k, touched(run.row.touches, run.blocks));
+        let t = noted.taken(k, usize::from(run.row.touches) * run.blocks);
         Counter { map, t }
     }
 }

@@ -1,8 +1,8 @@
-use Prim.Native.Nat.{◌≤◌}
+use Prim.Native.Nat.{◌*◌}
 use mathlib.Core.Path.{◌≡◌, ◌∙◌}
-use lib.ListN.{length, get_or}
+use lib.ListN.{get_or}
 use native.Mathlib.Omega.{arith}
-use Rattle.smc_check.specs.Tallying.{is_open, taken_of}
+use Rattle.smc_check.specs.Tallying.{is_open}
 use Rattle.smc_check.proofs.Tallies.{owing-few, owing-least, taken-few, taken-on, taken-anew, byte-bit, bit-open, open_in-part}
 use Rattle.smc_check.proofs.count.Counter.taken.Goals as goal
 
@@ -10,15 +10,14 @@ pub overflow_sub-result : goal.overflow_sub-result
 overflow_sub-result c = let a = c.args in
     let m = a.self.map.now in
     let few = owing-few m a.k a.touched a.self.t c.requires.owing (omega (arith, c.if-touched-lt2.true)) in
-    let one : c.from-first.result ≡ is_open (get_or m a.k 0) = c.from-first.ensures ∙ byte-bit _ ∙ bit-open _ in
-    let q : c.taken_of.result ≡ taken_of a.touched (is_open (get_or m a.k 0)) = rw (← one) c.taken_of.ensures in
-    omega (arith, few, q)
+    let one : c.from.result ≡ is_open (get_or m a.k 0) = c.from.ensures ∙ byte-bit _ ∙ bit-open _ in
+    rw one few
 
 pub returns-then-touched-lt2 : goal.returns-then-touched-lt2
 returns-then-touched-lt2 c = let a = c.args in
     let m = a.self.map.now in
-    let one : c.from-first.result ≡ is_open (get_or m a.k 0) = c.from-first.ensures ∙ byte-bit _ ∙ bit-open _ in
-    rw (c.taken_of.ensures, one) (taken-few m a.k a.touched a.self.t (omega (arith, c.if-touched-lt2.true)))
+    let one : c.from.result ≡ is_open (get_or m a.k 0) = c.from.ensures ∙ byte-bit _ ∙ bit-open _ in
+    rw one (taken-few m a.k a.touched a.self.t (omega (arith, c.if-touched-lt2.true)))
 
 pub returns-then-t-k : goal.returns-then-t-k
 returns-then-t-k c = let a = c.args in
