@@ -36,16 +36,11 @@ use Rattle.spec.specs.Chunks.{
   decode,
   verdict,
 }
-use Rattle.spec.proofs.Lists.{by-test}
 use Rattle.spec.proofs.Loops.{unroll, loop-remains, loop-accepts, loop-follows}
 use Rattle.spec.proofs.Made.{length-extend}
 use Rattle.spec.proofs.Parts.{part-listed}
-use Rattle.spec.proofs.Computed.{at_most}
-use Rattle.spec.proofs.Heads as Heads
-use Rattle.spec.proofs.Heads.{Known, known-head}
 use Rattle.spec.proofs.Sound.{Checked, good, checked-head}
 use Rattle.spec.specs.declared.Answer.{Answer}
-use Rattle.smc_check.proofs.Counting.{times-small}
 use Rattle.spec.specs.declared.Refusal.{Refusal}
 use Rattle.spec.specs.Pictures.{Origin}
 use Rattle.smc_check.specs.declared.here.Run.{Run}
@@ -89,22 +84,22 @@ module _ (n : ℕ) (s : List ℕ) (at k : ℕ) (filled : List ℕ) where
       × (b + once (kind_of u) + each (kind_of u) * m ≤ length s)
   checked-runs u m b (good room on) = (room, on.0, on.1)
 
-  told : {x : Chunks.Head} (r : Run) → Checked n s at k x → Found s at (Ok r) x → Told n s at k x r.upper r.blocks r.next
-  told r c (runs e) =
+  told : {x : Chunks.Head} (r : Run) → Checked n s at k x → Found s at k (Ok r) x → (r.first ≡ k) × Told n s at k x r.upper r.blocks r.next
+  told r c (runs f e) =
       let q = checked-runs r.upper r.blocks (body_at s at) c in
-      record { small = r.known; head = refl; place = e; room = q.0; after = omega (arith, q.1, e); inside = omega (arith, q.2, e) }
+      (f, record { small = r.known; head = refl; place = e; room = q.0; after = omega (arith, q.1, e); inside = omega (arith, q.2, e) })
 
-  pub told-runs : (h : Result Run Refusal) (r : Run) → h ≡ Ok r → Found s at h (opcode n s at k filled)
-      → Told n s at k (opcode n s at k filled) r.upper r.blocks r.next
+  pub told-runs : (h : Result Run Refusal) (r : Run) → h ≡ Ok r → Found s at k h (opcode n s at k filled)
+      → (r.first ≡ k) × Told n s at k (opcode n s at k filled) r.upper r.blocks r.next
   told-runs h r e t =
-      told r (checked-head n s at k filled) (subst (λ (h : Result Run Refusal). Found s at h (opcode n s at k filled)) e t)
+      told r (checked-head n s at k filled) (subst (λ (h : Result Run Refusal). Found s at k h (opcode n s at k filled)) e t)
 
-  is-bad : {x : Chunks.Head} (why : Refusal) → Found s at (Err why) x → x ≡ Chunks.Head.bad (refusal_number why)
+  is-bad : {x : Chunks.Head} (why : Refusal) → Found s at k (Err why) x → x ≡ Chunks.Head.bad (refusal_number why)
   is-bad why bad = refl
 
-  pub told-bad : (h : Result Run Refusal) (why : Refusal) → h ≡ Err why → Found s at h (opcode n s at k filled)
+  pub told-bad : (h : Result Run Refusal) (why : Refusal) → h ≡ Err why → Found s at k h (opcode n s at k filled)
       → opcode n s at k filled ≡ Chunks.Head.bad (refusal_number why)
-  told-bad h why q t = is-bad why (subst (λ (h : Result Run Refusal). Found s at h (opcode n s at k filled)) q t)
+  told-bad h why q t = is-bad why (subst (λ (h : Result Run Refusal). Found s at k h (opcode n s at k filled)) q t)
 
 pub few-told : {n : ℕ} {s : List ℕ} {at k : ℕ} {f : List ℕ} {x : Chunks.Head} {u m next : ℕ} → Behind n s at k f → Told n s at k x u m next → get_or f u 0 ≤ at
 few-told {u} g t = g.few u
@@ -232,40 +227,6 @@ balanced-refused m o a e now = rw e nothing
 pub balanced-accepted : (m : List ℕ) (o : Chunks.Outcome) (t : Running) (made : List Origin) → o ≡ accepted made → length made ≡ length m
     → (lent : List ℕ) → lent ≡ m → StandsAt lent made t 0 → (now : ℕ) → now ≡ summed lent t → Balanced m now o
 balanced-accepted m o t made e l lent q g now en = rw (e, en, q) (sums (tally-end m made _ _ _ _ _ (rw q at g) l))
-
--- what the head of an opcode says to the counting
-data Sized (k : ℕ) : Chunks.Head → Type 0 where
-  unsized : {e : ℕ} → Sized k (Chunks.Head.bad e)
-  sized : {x : Kind} {w b : ℕ} (count : ℕ) → 1 ≤ count → w ≡ times x * count → reach x ≤ k → Sized k (Chunks.Head.runs x w b)
-
-count-some : (s : List ℕ) (at : ℕ) → 1 ≤ count_at s at
-unfolding count_at
-count-some s at = by-test (λ (n : ℕ). 1 ≤ n) _ (λ t. omega arith) (λ t. omega arith)
-
-sized-head : (n : ℕ) (s : List ℕ) (at k : ℕ) (filled : List ℕ) → Sized k (opcode n s at k filled)
-sized-head n s at k filled = by (known-head n s at k filled)
-  where
-    by : {x : Chunks.Head} → Known n s k filled (upper_at s at) (count_at s at) (body_at s at) x → Sized k x
-    by Heads.Known.bad = unsized
-    by (Heads.Known.good fit) = sized (count_at s at) (count-some s at) refl fit.before
-
-times-some : (u : ℕ) → u < 16 → 1 ≤ times (kind_of u)
-times-some u h = let e = at_most (λ u. 1 - times (kind_of u)) 0 16 refl u h in omega (arith, e)
-
-times-even : (t count : ℕ) → 1 ≤ t → t ≤ 2 → 1 ≤ count → (1 ≤ t * count) × ((t * count) % t ≡ 0)
-times-even zero count a b c = absurd (omega (arith, a))
-times-even (suc zero) count a b c = (omega (arith, c), omega arith)
-times-even (suc (suc zero)) count a b c = (omega (arith, c), omega arith)
-times-even (suc (suc (suc t))) count a b c = absurd (omega (arith, b))
-
-sized-counts : {k u w b : ℕ} → u < 15 → Sized k (Chunks.Head.runs (kind_of u) w b) → (1 ≤ w) × (reach (kind_of u) ≤ k) × (w % times (kind_of u) ≡ 0)
-sized-counts {u} h (sized count some e far) =
-    let q = times-even (times (kind_of u)) count (times-some u (omega (arith, h))) (times-small u (omega (arith, h))) some in
-    rw e (q.0, far, q.1)
-
-pub told-counts : (n : ℕ) (s : List ℕ) (at k : ℕ) (filled : List ℕ) (u w p : ℕ) → Told n s at k (opcode n s at k filled) u w p
-    → (1 ≤ w) × (reach (kind_of u) ≤ k) × (w % times (kind_of u) ≡ 0)
-told-counts n s at k filled u w p t = sized-counts t.small (subst (λ (x : Chunks.Head). Sized k x) t.head (sized-head n s at k filled))
 
 -- the refusals before any opcode
 pub refused-short : (n : ℕ) (s : List ℕ) → length s < 4 → decode n s ≡ refused (answer chunk_short 0)

@@ -1,5 +1,5 @@
 -- Each way out of the check of one opcode, over the numbers that the code holds. Assumes nothing.
-use Prim.Native.Nat.{ℕ, ◌+◌, ◌*◌, ◌<◌, ◌≤◌}
+use Prim.Native.Nat.{ℕ, zero, suc, ◌+◌, ◌*◌, ◌%◌, ◌<◌, ◌≤◌}
 use mathlib.Core.Path.{◌≡◌, refl, sym, ◌∙◌}
 use mathlib.Core.List.{List}
 use mathlib.Core.Bool.{true, false}
@@ -28,7 +28,7 @@ use Rattle.smc_check.specs.declared.heads.Lead.{Lead}
 use Rattle.smc_check.specs.Heads.{Leads}
 use Rattle.smc_check.specs.Tables.{span_of}
 use Rattle.smc_check.specs.Checking.{Stands, Ends, Found, bad, runs}
-use Rattle.smc_check.proofs.Counting.{span-end, unknown-span, times-small, count_small}
+use Rattle.smc_check.proofs.Counting.{span-end, unknown-span, times-small, times-some, count_small, count-some}
 
 -- an opcode whose bytes all stand in the chunk has its count there, and its bytes that come once
 module _ {s : List ℕ} {at span : ℕ} (g : Stands s at span) (byte : get_or s at 0 < 256) where
@@ -56,6 +56,19 @@ module _ {s : List ℕ} {at : ℕ} {l : Lead} (el : Leads s at l) where
 
   pub blocks-small : get_or s at 0 < 256 → get_or s (at + 1) 0 < 256 → {t : ℕ} → t ≡ times (kind_of l.upper) → t * l.count ≤ 2 * 256
   blocks-small h g {t} et = mul-le-mul {n₂ = 2} {m₂ = 256} (rw et (times-small l.upper (upper-small h))) (rw el.count (count_small s at g))
+
+-- an opcode makes some blocks, pairs of them where it copies from two before
+times-even : (t count : ℕ) → 1 ≤ t → t ≤ 2 → 1 ≤ count → (1 ≤ t * count) × ((t * count) % t ≡ 0)
+times-even zero count a b c = absurd (omega (arith, a))
+times-even (suc zero) count a b c = (omega (arith, c), omega arith)
+times-even (suc (suc zero)) count a b c = (omega (arith, c), omega arith)
+times-even (suc (suc (suc t))) count a b c = absurd (omega (arith, b))
+
+pub blocks-even : {s : List ℕ} {at : ℕ} {l : Lead} (el : Leads s at l) → l.upper < 16 → (t : ℕ) → t ≡ times (kind_of l.upper)
+    → (1 ≤ t * l.count) × ((t * l.count) % times (kind_of l.upper) ≡ 0)
+blocks-even {s} {at} {l} el h t et =
+    let some : 1 ≤ l.count = rw el.count (count-some s at) in
+    rw et (times-even (times (kind_of l.upper)) l.count (times-some l.upper h) (times-small l.upper h) some)
 
 module _ (n : ℕ) (s : List ℕ) (at k : ℕ) (filled : List ℕ) where
   pub way_unknown : 15 ≤ upper_at s at → opcode n s at k filled ≡ Head.bad opcode_unknown
@@ -92,13 +105,13 @@ module _ (n : ℕ) (s : List ℕ) (at k : ℕ) (filled : List ℕ) where
             way-cut h = is_body ∙ body-cut n s k filled l.upper l.count l.body r' er a t et b _ refl d z _ refl (rw end h)
 
             pub way-runs : at + span_of (get_or s at 0) ≤ length s
-                → (r : Run) → r.upper ≡ l.upper → r.blocks ≡ t * l.count → r.next ≡ at + span_of (get_or s at 0)
-                → Found s at (Ok r) (opcode n s at k filled)
-            way-runs h r eu em en =
+                → (r : Run) → r.upper ≡ l.upper → r.first ≡ k → r.blocks ≡ t * l.count → r.next ≡ at + span_of (get_or s at 0)
+                → Found s at k (Ok r) (opcode n s at k filled)
+            way-runs h r eu ek em en =
                 let q : r.next ≡ body_at s at + once (kind_of r.upper) + each (kind_of r.upper) * r.blocks = rw (eu, em, ← el.body) (en ∙ sym end) in
-                rw (is_body ∙ body-runs n s k filled l.upper l.count l.body r' er a t et b _ refl d z _ refl (rw end h), el.body, ← eu, ← em) (runs q)
+                rw (is_body ∙ body-runs n s k filled l.upper l.count l.body r' er a t et b _ refl d z _ refl (rw end h), el.body, ← eu, ← em) (runs ek q)
 
 -- why one is refused
 pub found-bad : (n : ℕ) (s : List ℕ) (at k : ℕ) (filled : List ℕ) (why : Refusal) → opcode n s at k filled ≡ Head.bad (refusal_number why)
-    → Found s at (Err why) (opcode n s at k filled)
+    → Found s at k (Err why) (opcode n s at k filled)
 found-bad n s at k filled why e = rw e bad

@@ -43,10 +43,10 @@ abbrev pub Refuses : Here → Refusal → Type 0
 Refuses h why = head_of h ≡ Chunks.Head.bad (refusal_number why)
 
 -- what the code finds there, set out as the definition's head, with the place after the opcode
-pub data Found (s : List ℕ) (at : ℕ) : Result Run Refusal → Chunks.Head → Type 0 where
-  bad : {why : Refusal} → Found s at (Err why) (Chunks.Head.bad (refusal_number why))
-  runs : {r : Run} → r.next ≡ body_at s at + once (kind_of r.upper) + each (kind_of r.upper) * r.blocks
-      → Found s at (Ok r) (Chunks.Head.runs (kind_of r.upper) r.blocks (body_at s at))
+pub data Found (s : List ℕ) (at k : ℕ) : Result Run Refusal → Chunks.Head → Type 0 where
+  bad : {why : Refusal} → Found s at k (Err why) (Chunks.Head.bad (refusal_number why))
+  runs : {r : Run} → r.first ≡ k → r.next ≡ body_at s at + once (kind_of r.upper) + each (kind_of r.upper) * r.blocks
+      → Found s at k (Ok r) (Chunks.Head.runs (kind_of r.upper) r.blocks (body_at s at))
 
 abbrev pub Tells : Here → Result Run Refusal → Type 0
-Tells h r = Found h.s.now h.at r (head_of h)
+Tells h r = Found h.s.now h.at h.k r (head_of h)

@@ -1,11 +1,11 @@
 // The check pass: it decides the answer to a chunk, and writes nothing. Here s is the chunk, s[at] its next opcode, k how many of the blocks have had
 // their turn, and f how often each opcode has come.
-ghost use Rattle.std.specs.Prelude.{◌≡◌, ◌+◌, ◌*◌, ◌%◌, ◌^◌, ◌≤◌, ◌<◌, ℕ, List, [], length, drop, OnOk, IfErr};
+ghost use Rattle.std.specs.Prelude.{◌≡◌, ◌+◌, ◌^◌, ◌≤◌, ◌<◌, ℕ, List, [], length, drop, OnOk, IfErr};
 ghost use Rattle.spec.specs.Answers.{answer, refusal_number};
 ghost use Rattle.spec.specs.Basics.{part};
 ghost use Rattle.spec.specs.Flags.{number};
 ghost use Rattle.spec.specs.Pictures.{Origin};
-ghost use Rattle.spec.specs.Chunks.{kind_of, times, reach, padding, decode, refused, verdict};
+ghost use Rattle.spec.specs.Chunks.{padding, decode, refused, verdict};
 ghost use Rattle.smc_check.specs.Going.{Made, Advances, Staying, Concludes};
 
 use crate::here::{Here, Run};
@@ -22,12 +22,11 @@ pub trait Along: Copy {
 
     ghost room: { Self → ℕ };
 
-    // Past an opcode whose first block is k.
-    fn past(self, run: Run, k: usize) -> Self
-        requires tallied { Made (tallies self) k }
-        requires fits { (k + run.blocks ≤ room self) × (1 ≤ run.blocks) }
-        requires reached { (reach (kind_of run.upper) ≤ k) × (run.blocks % times (kind_of run.upper) ≡ 0) }
-        ensures advances { Advances (tallies self) (tallies result) run.entry.upper k run.entry.blocks }
+    // Past an opcode.
+    fn past(self, run: Run) -> Self
+        requires tallied { Made (tallies self) run.first }
+        requires fits { run.first + run.blocks ≤ room self }
+        ensures advances { Advances (tallies self) (tallies result) run.entry.upper run.entry.first run.entry.blocks }
         ensures stays { (map result ≡ map self) × (room result ≡ room self) };
 }
 
@@ -38,7 +37,7 @@ impl Along for () {
 
     ghost room = { λ _. 2 ^ 64 };
 
-    fn past(self, _run: Run, _k: usize) {}
+    fn past(self, _run: Run) {}
 }
 
 // An accepted chunk: the length used, padding included, and what went along.
@@ -92,7 +91,7 @@ fn check_opcodes<A: Along>(blocks: usize, s: &[u8], mut along: A) -> Result<Used
             Ok(run) => {
                 f[run.upper] += 1;
                 at = run.next;
-                along = along.past(run, k);
+                along = along.past(run);
                 k += run.blocks;
             }
         }

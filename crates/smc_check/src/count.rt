@@ -1,10 +1,10 @@
 // The count's change, beside the check: how many entries of blocks that are painted or copied are unsettled, and how many blocks a copy leaves
 // unsettled. It looks at the map while the check waits for its next opcode, and writes nothing. Here k and m are an opcode's first block and how many it makes.
-ghost use Rattle.std.specs.Prelude.{◌≡◌, ◌+◌, ◌%◌, ◌≤◌, ◌<◌, length};
+ghost use Rattle.std.specs.Prelude.{◌≡◌, ◌+◌, ◌≤◌, ◌<◌, length};
 ghost use Rattle.spec.specs.Basics.{if};
 ghost use Rattle.spec.specs.Sizes.{max_blocks};
 ghost use Rattle.spec.specs.Maps.{unsettled};
-ghost use Rattle.spec.specs.Chunks.{kind_of, times, reach, decode, verdict};
+ghost use Rattle.spec.specs.Chunks.{decode, verdict};
 ghost use Rattle.smc_check.specs.Tallying.{bit, opened, left, copied, second_of, is_settled, begun, summed};
 ghost use Rattle.smc_check.specs.Tallying.{StandsAt, Tallied, Owing, Notes, Takes, Balanced};
 
@@ -130,16 +130,15 @@ impl<'a> Counter<'a> {
     }
 
     // Copies of blocks that may be unsettled: how many blocks they leave unsettled.
-    fn copied(self, run: Run, k: usize) -> Running
-        requires tallied { Tallied self.map.now k self.t }
-        requires fits { (k + run.blocks ≤ length self.map.now) × (1 ≤ run.blocks) }
+    fn copied(self, run: Run) -> Running
+        requires tallied { Tallied self.map.now run.first self.t }
+        requires fits { run.first + run.blocks ≤ length self.map.now }
         requires copies { (2 ≤ run.upper) × (run.upper < 6) }
-        requires reached { (reach (kind_of run.upper) ≤ k) × (run.blocks % times (kind_of run.upper) ≡ 0) }
-        ensures { Notes self.entry.map.now run.entry.upper k run.entry.blocks self.entry.t result }
+        ensures { Notes self.entry.map.now run.entry.upper run.entry.first run.entry.blocks self.entry.t result }
     {
         let t = self.t;
         let m = run.blocks;
-        let one = t.one.is_unsettled(self.map, k - 1);
+        let one = t.one.is_unsettled(self.map, run.first - 1);
         if run.upper < 4 {
             return Running {
                 now: t.now + m * usize::from(one),
@@ -148,7 +147,7 @@ impl<'a> Counter<'a> {
                 ..t
             };
         }
-        let two = t.two.is_unsettled(self.map, k - 2);
+        let two = t.two.is_unsettled(self.map, run.first - 2);
         Running {
             now: t.now + m / 2 * (usize::from(one) + usize::from(two)),
             one: Block::copied(one),
@@ -159,15 +158,14 @@ impl<'a> Counter<'a> {
 
     // What an opcode leaves unsettled, and what is to be remembered of its last blocks. Only a copy after blocks that are not known to be settled
     // looks at the map.
-    fn noted(self, run: Run, k: usize) -> Running
-        requires tallied { Tallied self.map.now k self.t }
-        requires fits { (k + run.blocks ≤ length self.map.now) × (1 ≤ run.blocks) }
-        requires reached { (reach (kind_of run.upper) ≤ k) × (run.blocks % times (kind_of run.upper) ≡ 0) }
-        ensures { Notes self.entry.map.now run.entry.upper k run.entry.blocks self.entry.t result }
+    fn noted(self, run: Run) -> Running
+        requires tallied { Tallied self.map.now run.first self.t }
+        requires fits { run.first + run.blocks ≤ length self.map.now }
+        ensures { Notes self.entry.map.now run.entry.upper run.entry.first run.entry.blocks self.entry.t result }
     {
         let t = self.t;
         if t.settled_back() < run.row.reach {
-            return self.copied(run, k);
+            return self.copied(run);
         }
         let left = Block::left(run.row.touches);
         Running {
@@ -222,11 +220,11 @@ impl<'a> Along for Counter<'a> {
 
     ghost room = { λ c. length c.map.now };
 
-    fn past(self, run: Run, k: usize) -> Self {
+    fn past(self, run: Run) -> Self {
         let map = self.map;
-        let t = self.noted(run, k);
+        let t = self.noted(run);
         let noted = Counter { map, t };
-        let t = noted.taken(k, usize::from(run.row.touches) * run.blocks);
+        let t = noted.taken(run.first, usize::from(run.row.touches) * run.blocks);
         Counter { map, t }
     }
 }

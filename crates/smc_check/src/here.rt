@@ -1,5 +1,6 @@
 // Where the check stands, and the opcode there.
-ghost use Rattle.std.specs.Prelude.{ℕ, ◌<◌, length, get_or};
+ghost use Rattle.std.specs.Prelude.{ℕ, ◌≡◌, ◌%◌, ◌≤◌, ◌<◌, length, get_or};
+ghost use Rattle.spec.specs.Chunks.{kind_of, times, reach};
 ghost use Rattle.smc_check.specs.Tables.{Asks};
 
 use crate::heads;
@@ -22,20 +23,24 @@ pub struct Here<'t, 'a> {
     ghost block_waits: { k < blocks },
 }
 
-// An opcode that may run: its upper half-byte and what that asks for, how many blocks it makes, and the place of the next opcode.
+// An opcode that may run: its upper half-byte and what that asks for, the first block that it makes and how many, and the place of the next opcode.
 #[derive(Clone, Copy)]
 pub struct Run<'t> {
     pub upper: usize,
     pub row: &'t Row,
+    pub first: usize,
     pub blocks: usize,
     pub next: usize,
     ghost known: { upper < 15 },
     ghost asks: { Asks upper row.now },
+    ghost reached: { reach (kind_of upper) ≤ first },
+    ghost some: { 1 ≤ blocks },
+    ghost even: { blocks % times (kind_of upper) ≡ 0 },
 }
 
 impl<'t, 'a> Here<'t, 'a> {
-    ghost use Rattle.std.specs.Prelude.{◌≡◌, ◌+◌, ◌≤◌};
-    ghost use Rattle.spec.specs.Chunks.{kind_of, once, missing};
+    ghost use Rattle.std.specs.Prelude.{◌+◌};
+    ghost use Rattle.spec.specs.Chunks.{once, missing};
     ghost use Rattle.smc_check.specs.Checking.{Stands, Ends, naming, fills_of, Tells, Refuses};
 
     // The opcodes that name an entry, 9, B and D, a bit for each: one bit is faster to test than a row's flag.
@@ -76,6 +81,7 @@ impl<'t, 'a> Here<'t, 'a> {
         Ok(Run {
             upper: lead.upper,
             row,
+            first: self.k,
             blocks: m,
             next: self.at + span,
         })

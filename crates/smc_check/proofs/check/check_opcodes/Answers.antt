@@ -1,8 +1,8 @@
 use Rattle.smc_check.proofs.Behind.{
   beside-begins,
+  beside-made,
   told-runs,
   told-bad,
-  told-counts,
   goes-on-beside,
   refused-bad,
   refused-remain,
@@ -34,27 +34,25 @@ returns-in-Err g c = let a = c.args in
     (refused-bad a.blocks a.s.now _ _ _ c.loop-k.invariant.3.behind (omega arith) (omega arith) _
     (told-bad a.blocks a.s.now _ _ _ _ _ c.in-Err.is c.opcode.ensures)))
 
+pub past-along-requires-clause-tallied : goal.past-along-requires-clause-tallied
+past-along-requires-clause-tallied g c = let a = c.args in
+    let t = told-runs a.blocks a.s.now _ _ _ _ _ c.in-Ok.is c.opcode.ensures in
+    rw t.0 (beside-made c.loop-k.invariant.3)
+
 pub past-along-requires-clause-fits : goal.past-along-requires-clause-fits
 past-along-requires-clause-fits g c = let a = c.args in
     let t = told-runs a.blocks a.s.now _ _ _ _ _ c.in-Ok.is c.opcode.ensures in
-    let q = told-counts a.blocks a.s.now _ _ _ _ _ _ t in
-    (omega (arith, t.room, c.loop-k.invariant.1), q.0)
-
-pub past-along-requires-clause-reached : goal.past-along-requires-clause-reached
-past-along-requires-clause-reached g c = let a = c.args in
-    let t = told-runs a.blocks a.s.now _ _ _ _ _ c.in-Ok.is c.opcode.ensures in
-    let q = told-counts a.blocks a.s.now _ _ _ _ _ _ t in
-    (q.1, q.2)
+    omega (arith, t.0, t.1.room, c.loop-k.invariant.1)
 
 pub overflow_add-k : goal.overflow_add-k
 overflow_add-k g c = let a = c.args in
     let t = told-runs a.blocks a.s.now _ _ _ _ _ c.in-Ok.is c.opcode.ensures in
-    omega (arith, t.room)
+    omega (arith, t.1.room)
 
 pub loop-k-smaller : goal.loop-k-smaller
 loop-k-smaller g c = let a = c.args in
     let t = told-runs a.blocks a.s.now _ _ _ _ _ c.in-Ok.is c.opcode.ensures in
-    omega (arith, t.after, t.inside)
+    omega (arith, t.1.after, t.1.inside)
 
 pub loop-k-preserved : goal.loop-k-preserved
 loop-k-preserved g c = let a = c.args in
@@ -64,7 +62,7 @@ loop-k-preserved g c = let a = c.args in
       refl,
       rw c.past-along.ensures.stays.1 i.1,
       c.past-along.ensures.stays.0 ∙ i.2,
-      goes-on-beside a.blocks a.s.now _ _ _ i.3.behind (omega arith) (omega arith) _ _ _ t _ _ i.3.tally c.past-along.ensures.advances,
+      goes-on-beside a.blocks a.s.now _ _ _ i.3.behind (omega arith) (omega arith) _ _ _ t.1 _ _ i.3.tally (rw t.0 at c.past-along.ensures.advances),
     )
 
 pub returns-then-is_padding : goal.returns-then-is_padding

@@ -6,5 +6,5 @@ pub returns : goal.returns
 returns c = let a = c.args in
     let asks = a.run.asks in
     rw (c.second_of.ensures, c.left-left.ensures, asks.touches)
-    (notes-plain a.self.map.now a.run.upper a.k a.run.blocks a.self.t a.run.known c.requires.fits.1 c.requires.reached.1 c.requires.reached.0
+    (notes-plain a.self.map.now a.run.upper a.run.first a.run.blocks a.self.t a.run.known a.run.some a.run.even a.run.reached
     (looked-back a.self.t _ (omega (arith, asks.reach, c.settled_back.ensures))))

@@ -6,6 +6,7 @@ use Rattle.smc_check.proofs.Ways.{
   stands-once,
   upper-small,
   blocks-small,
+  blocks-even,
   way_unknown,
   way-none-before,
   way-past,
@@ -67,6 +68,17 @@ pub invariant_of-result-clause-known : goal.invariant_of-result-clause-known
 invariant_of-result-clause-known c = let known = upper-small c.lead_at-lead.ensures (c.args.self.bytes c.args.self.at) in
     omega (arith, known, c.if-lead-eq15.false)
 
+pub invariant_of-result-clause-reached : goal.invariant_of-result-clause-reached
+invariant_of-result-clause-reached c = let r = c.from-2.ensures ∙ c.row_of-row.ensures.reach in omega (arith, r)
+
+pub invariant_of-result-clause-some : goal.invariant_of-result-clause-some
+invariant_of-result-clause-some c = let el = c.lead_at-lead.ensures in
+    (blocks-even el (upper-small el (c.args.self.bytes _)) _ (c.from.ensures ∙ c.row_of-row.ensures.times)).0
+
+pub invariant_of-result-clause-even : goal.invariant_of-result-clause-even
+invariant_of-result-clause-even c = let el = c.lead_at-lead.ensures in
+    (blocks-even el (upper-small el (c.args.self.bytes _)) _ (c.from.ensures ∙ c.row_of-row.ensures.times)).1
+
 pub returns : goal.returns
 returns c = let el = c.lead_at-lead.ensures in
     let byte = c.args.self.bytes c.args.self.at in
@@ -74,4 +86,4 @@ returns c = let el = c.lead_at-lead.ensures in
     way-runs _ _ _ _ _ _ el (omega (arith, known, c.if-lead-eq15.false)) (rw el.body (stands-body c.requires byte)) _
     (c.from-2.ensures ∙ c.row_of-row.ensures.reach) (omega arith) _ (c.from.ensures ∙ c.row_of-row.ensures.times) (omega arith)
     (stands-once c.requires byte el) (sym c.is_missing.ensures ∙ c.if-is_missing.false) byte
-    (stands-room c.requires byte) _ refl refl (rw c.requires.is)
+    (stands-room c.requires byte) _ refl refl refl (rw c.requires.is)
