@@ -91,8 +91,8 @@ fn check_opcodes<A: Along>(blocks: usize, s: &[u8], mut along: A) -> Result<Used
             Ok(run) => {
                 f[run.upper] += 1;
                 at = run.next;
-                along = along.past(run);
                 k += run.blocks;
+                along = along.past(run);
             }
         }
     }

@@ -1,5 +1,5 @@
 // The count's change, beside the check: how many entries of blocks that are painted or copied are unsettled, and how many blocks a copy leaves
-// unsettled. It looks at the map while the check waits for its next opcode, and writes nothing. Here k and m are an opcode's first block and how many it makes.
+// unsettled. It looks at the map while the check waits for its next opcode, and writes nothing.
 ghost use Rattle.std.specs.Prelude.{◌≡◌, ◌+◌, ◌≤◌, ◌<◌, length};
 ghost use Rattle.spec.specs.Basics.{if};
 ghost use Rattle.spec.specs.Sizes.{max_blocks};
@@ -8,9 +8,9 @@ ghost use Rattle.spec.specs.Chunks.{decode, verdict};
 ghost use Rattle.smc_check.specs.Tallying.{bit, opened, left, copied, second_of, is_settled, begun, summed};
 ghost use Rattle.smc_check.specs.Tallying.{StandsAt, Tallied, Owing, Notes, Takes, Balanced};
 
+use crate::check;
 use crate::check::Along;
 use crate::here::Run;
-use crate::check;
 use spec::{Answer, SETTLED};
 
 // What is remembered of a block: settled by now, skipped and so as it was lent, or unsettled by now.
@@ -35,8 +35,8 @@ pub struct Running {
 // The counting beside the check of a chunk for a board with this map.
 #[derive(Clone, Copy)]
 pub struct Counter<'a> {
-    map: &'a [u16],
-    t: Running,
+    pub map: &'a [u16],
+    pub t: Running,
     ghost map_fits: { length map.now ≤ max_blocks },
 }
 
@@ -52,14 +52,22 @@ impl Block {
     fn left(touches: bool) -> Self
         ensures { result ≡ left touches }
     {
-        if touches { Block::Settled } else { Block::Skipped }
+        if touches {
+            Block::Settled
+        } else {
+            Block::Skipped
+        }
     }
 
     // As a copy leaves it.
     fn copied(unsettled: bool) -> Self
         ensures { result ≡ copied unsettled }
     {
-        if unsettled { Block::Unsettled } else { Block::Settled }
+        if unsettled {
+            Block::Unsettled
+        } else {
+            Block::Settled
+        }
     }
 
     // Whether block j is unsettled by now.

@@ -23,7 +23,11 @@ fn count_of(bytes: usize, opcode: usize, next: usize) -> usize
     requires { next < 256 }
     ensures { result ≡ if (eqb bytes 0) (1 + opcode % 16) (1 + next) }
 {
-    if bytes == 0 { 1 + opcode % 16 } else { 1 + next }
+    if bytes == 0 {
+        1 + opcode % 16
+    } else {
+        1 + next
+    }
 }
 
 // The lead of the opcode at s[at].

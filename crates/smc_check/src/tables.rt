@@ -45,33 +45,13 @@ impl Row {
         touches: true,
     };
 
-    const PAINT_1: Row = Row {
-        times: 1,
-        reach: 0,
-        once: 1,
-        touches: true,
-    };
+    const PAINT_1: Row = Row { once: 1, ..Row::PAINT_0 };
 
-    const PAINT_2: Row = Row {
-        times: 1,
-        reach: 0,
-        once: 2,
-        touches: true,
-    };
+    const PAINT_2: Row = Row { once: 2, ..Row::PAINT_0 };
 
-    const PAINT_4: Row = Row {
-        times: 1,
-        reach: 0,
-        once: 4,
-        touches: true,
-    };
+    const PAINT_4: Row = Row { once: 4, ..Row::PAINT_0 };
 
-    const PAINT_8: Row = Row {
-        times: 1,
-        reach: 0,
-        once: 8,
-        touches: true,
-    };
+    const PAINT_8: Row = Row { once: 8, ..Row::PAINT_0 };
 }
 
 // 01's table, 0 to E, in order; F is none. An upper half-byte is a number because the table goes by it.

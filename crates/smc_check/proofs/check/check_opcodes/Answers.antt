@@ -57,8 +57,7 @@ loop-k-smaller g c = let a = c.args in
 pub loop-k-preserved : goal.loop-k-preserved
 loop-k-preserved g c = let a = c.args in
     let i = c.loop-k.invariant in
-    let t = told-runs a.blocks a.s.now _ _ _ _ _ c.in-Ok.is c.opcode.ensures in
-    (
+    let t = told-runs a.blocks a.s.now _ _ _ _ _ c.in-Ok.is c.opcode.ensures in (
       refl,
       rw c.past-along.ensures.stays.1 i.1,
       c.past-along.ensures.stays.0 ∙ i.2,
