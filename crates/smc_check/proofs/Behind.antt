@@ -1,13 +1,14 @@
 -- The state of the definition behind the numbers of the check loop. Assumes nothing.
 use Prim.Native.Nat.{ℕ, zero, suc, ◌+◌, ◌-◌, ◌*◌, ◌%◌, ◌<◌, ◌≤◌}
 use mathlib.Core.Path.{◌≡◌, refl, sym, subst, ◌∙◌}
-use mathlib.Core.List.{List}
-use mathlib.Core.Bool.{true, false}
+use mathlib.Core.List.{List, []}
+use mathlib.Core.Bool.{true, false, true≢false}
+use Rattle.std.specs.Prelude.{Result, Ok, Err, IsErr, IsErrAnd}
 use native.Mathlib.Omega.{arith}
 use lib.ListN.{length, get_or, drop, replicate}
 use borrow.Author.Tests.{lt-ltb, le-ltb, eq-eqb, ne_eqb}
 use Rattle.spec.specs.Basics.{if, part}
-use Rattle.spec.specs.Answers.{ok, chunk_short, length_differs, blocks_remain, bytes_follow, answer_at, answer}
+use Rattle.spec.specs.Answers.{refusal_number, ok, chunk_short, length_differs, blocks_remain, bytes_follow, answer_at, answer}
 use Rattle.spec.specs.Flags.{number}
 use Rattle.spec.specs.Chunks as Chunks
 use Rattle.spec.specs.Chunks.{
@@ -35,22 +36,20 @@ use Rattle.spec.specs.Chunks.{
   decode,
   verdict,
 }
-use Rattle.spec.proofs.Lists.{by-test}
 use Rattle.spec.proofs.Loops.{unroll, loop-remains, loop-accepts, loop-follows}
 use Rattle.spec.proofs.Made.{length-extend}
 use Rattle.spec.proofs.Parts.{part-listed}
-use Rattle.spec.proofs.Computed.{at_most}
-use Rattle.spec.proofs.Heads as Heads
-use Rattle.spec.proofs.Heads.{Known, known-head}
 use Rattle.spec.proofs.Sound.{Checked, good, checked-head}
 use Rattle.spec.specs.declared.Answer.{Answer}
-use Rattle.smc_check.proofs.Counting.{times-small}
-use Rattle.smc_check.specs.declared.check.Head as Code
-use Rattle.smc_check.specs.declared.check.Head.TheVariants.{Bad, Runs}
-use Rattle.smc_check.specs.Checking.{grown, fills_of, Tells, bad, runs, Hints, hinted, ends}
+use Rattle.spec.specs.declared.Refusal.{Refusal}
+use Rattle.spec.specs.Pictures.{Origin}
+use Rattle.smc_check.specs.declared.here.Run.{Run}
+use Rattle.smc_check.specs.declared.check.Used.{Used}
 use Rattle.smc_check.specs.declared.count.Running.{Running}
-use Rattle.smc_check.specs.Tallying.{StandsAt, Tallied, Counts, begun, summed, Balanced, nothing, sums}
-use Rattle.smc_check.proofs.Tallies.{tally-start, tally-end}
+use Rattle.smc_check.specs.Checking.{grown, fills_of, Found, bad, runs}
+use Rattle.smc_check.specs.Going.{Made, Advances, Concludes, stops, passes}
+use Rattle.smc_check.specs.Tallying.{StandsAt, Tallied, summed, Balanced, nothing, sums}
+use Rattle.smc_check.proofs.Tallies.{tally-end}
 use Rattle.smc_check.proofs.Filling.{Counted, counted_start, counted-fills, counted-grown, Few, few-start, few-grown}
 
 pub record Behind (n : ℕ) (s : List ℕ) (at k : ℕ) (f : List ℕ) : Type 0 where
@@ -63,13 +62,13 @@ pub record Behind (n : ℕ) (s : List ℕ) (at k : ℕ) (f : List ℕ) : Type 0 
   pub within : at ≤ length s
   pub few : Few f at
 
--- with the counting beside it
-pub record Along (n : ℕ) (s m : List ℕ) (at k : ℕ) (f : List ℕ) (t : Running) : Type 0 where
+-- with what goes along, P of the blocks made so far
+pub record Beside (n : ℕ) (s : List ℕ) (at k : ℕ) (f : List ℕ) (P : List Origin → Type 0) : Type 0 where
   pub behind : Behind n s at k f
-  pub tally : StandsAt m behind.st.made t 0
+  pub tally : P behind.st.made
 
-pub along-tallied : {n : ℕ} {s m : List ℕ} {at k : ℕ} {f : List ℕ} {t : Running} → Along n s m at k f t → Tallied m k t
-along-tallied g = record { made = g.behind.st.made; size = sym g.behind.ks; tally = g.tally }
+pub beside-made : {n : ℕ} {s : List ℕ} {at k : ℕ} {f : List ℕ} {P : List Origin → Type 0} → Beside n s at k f P → Made P k
+beside-made g = record { made = g.behind.st.made; size = sym g.behind.ks; tally = g.tally }
 
 -- what a head that runs tells
 pub record Told (n : ℕ) (s : List ℕ) (at k : ℕ) (x : Chunks.Head) (u m next : ℕ) : Type 0 where
@@ -85,40 +84,22 @@ module _ (n : ℕ) (s : List ℕ) (at k : ℕ) (filled : List ℕ) where
       × (b + once (kind_of u) + each (kind_of u) * m ≤ length s)
   checked-runs u m b (good room on) = (room, on.0, on.1)
 
-  told : {x : Chunks.Head} (u m next : ℕ) → Checked n s at k x → Tells s at (Runs u m next) x → Told n s at k x u m next
-  told u m next c (runs small e) =
-      let r = checked-runs u m (body_at s at) c in
-      record { small = small; head = refl; place = e; room = r.0; after = omega (arith, r.1); inside = omega (arith, r.2) }
+  told : {x : Chunks.Head} (r : Run) → Checked n s at k x → Found s at k (Ok r) x → (r.first ≡ k) × Told n s at k x r.upper r.blocks r.next
+  told r c (runs f e) =
+      let q = checked-runs r.upper r.blocks (body_at s at) c in
+      (f, record { small = r.known; head = refl; place = e; room = q.0; after = omega (arith, q.1, e); inside = omega (arith, q.2, e) })
 
-  pub told-runs : (h : Code.Head) (u m next : ℕ) → h ≡ Runs u m next → Tells s at h (opcode n s at k filled) → Told n s at k (opcode n s at k filled) u m next
-  told-runs h u m next e t = told u m next (checked-head n s at k filled) (subst (λ (h : Code.Head). Tells s at h (opcode n s at k filled)) e t)
+  pub told-runs : (h : Result Run Refusal) (r : Run) → h ≡ Ok r → Found s at k h (opcode n s at k filled)
+      → (r.first ≡ k) × Told n s at k (opcode n s at k filled) r.upper r.blocks r.next
+  told-runs h r e t =
+      told r (checked-head n s at k filled) (subst (λ (h : Result Run Refusal). Found s at k h (opcode n s at k filled)) e t)
 
-  is-bad : {x : Chunks.Head} (e : ℕ) → Tells s at (Bad e) x → x ≡ Chunks.Head.bad e
-  is-bad e bad = refl
+  is-bad : {x : Chunks.Head} (why : Refusal) → Found s at k (Err why) x → x ≡ Chunks.Head.bad (refusal_number why)
+  is-bad why bad = refl
 
-  -- whether or not the number is the definition's
-  pub data Refuses : Chunks.Head → Type 0 where
-    refuses : {e : ℕ} → Refuses (Chunks.Head.bad e)
-
-  hints-runs : {x : Chunks.Head} (u m next : ℕ) → Hints s at (Runs u m next) x → Tells s at (Runs u m next) x
-  hints-runs u m next (hinted t) = t
-
-  pub hinted-runs : (h : Code.Head) (u m next : ℕ) → h ≡ Runs u m next → Hints s at h (opcode n s at k filled) → Told n s at k (opcode n s at k filled) u m next
-  hinted-runs h u m next e t =
-      told u m next (checked-head n s at k filled) (hints-runs u m next (subst (λ (h : Code.Head). Hints s at h (opcode n s at k filled)) e t))
-
-  tells-refuses : {x : Chunks.Head} (e : ℕ) → Tells s at (Bad e) x → Refuses x
-  tells-refuses e bad = refuses
-
-  hints-bad : {x : Chunks.Head} (e : ℕ) → Hints s at (Bad e) x → Refuses x
-  hints-bad e (hinted t) = tells-refuses e t
-  hints-bad e ends = refuses
-
-  pub hinted-bad : (h : Code.Head) (e : ℕ) → h ≡ Bad e → Hints s at h (opcode n s at k filled) → Refuses (opcode n s at k filled)
-  hinted-bad h e q t = hints-bad e (subst (λ (h : Code.Head). Hints s at h (opcode n s at k filled)) q t)
-
-  pub told-bad : (h : Code.Head) (e : ℕ) → h ≡ Bad e → Tells s at h (opcode n s at k filled) → opcode n s at k filled ≡ Chunks.Head.bad e
-  told-bad h e q t = is-bad e (subst (λ (h : Code.Head). Tells s at h (opcode n s at k filled)) q t)
+  pub told-bad : (h : Result Run Refusal) (why : Refusal) → h ≡ Err why → Found s at k h (opcode n s at k filled)
+      → opcode n s at k filled ≡ Chunks.Head.bad (refusal_number why)
+  told-bad h why q t = is-bad why (subst (λ (h : Result Run Refusal). Found s at k h (opcode n s at k filled)) q t)
 
 pub few-told : {n : ℕ} {s : List ℕ} {at k : ℕ} {f : List ℕ} {x : Chunks.Head} {u m next : ℕ} → Behind n s at k f → Told n s at k x u m next → get_or f u 0 ≤ at
 few-told {u} g t = g.few u
@@ -138,10 +119,9 @@ module _ (n : ℕ) (s : List ℕ) where
         few = few-start 4;
       }
 
-  pub along-begins : (m : List ℕ) → length m ≡ n → 4 ≤ length s → number 256 (part s 1 3) ≡ length s
-      → Along n s m 4 0 (replicate 16 0) (begun n)
+  pub beside-begins : (P : List Origin → Type 0) → P [] → 4 ≤ length s → number 256 (part s 1 3) ≡ length s → Beside n s 4 0 (replicate 16 0) P
   unfolding begins
-  along-begins m e h q = record { behind = begins h q; tally = rw (← e) (tally-start m) }
+  beside-begins P p h q = record { behind = begins h q; tally = p }
 
   module _ (at k : ℕ) (f : List ℕ) (g : Behind n s at k f) where
     -- the opcode at the loop's place is the definition's
@@ -154,16 +134,6 @@ module _ (n : ℕ) (s : List ℕ) where
 
     pub refused-bad : k < n → at < length s → (e : ℕ) → opcode n s at k (fills_of f) ≡ Chunks.Head.bad e → decode n s ≡ refused (answer_at e at k)
     refused-bad a b e h = next a b ∙ rw (h, g.ats, g.ks)
-
-    refused-by : k < n → at < length s → {x : Chunks.Head} → opcode n s at k (fills_of f) ≡ x → Refuses n s at k (fills_of f) x → (m : List ℕ) (now : ℕ)
-        → Balanced m now (decode n s)
-    refused-by a b e refuses m now = rw (refused-bad a b _ e) nothing
-
-    pub balanced-bad : k < n → at < length s → Refuses n s at k (fills_of f) (opcode n s at k (fills_of f)) → (m : List ℕ) (now : ℕ) → Balanced m now (decode n s)
-    balanced-bad a b r m now = refused-by a b refl r m now
-
-    pub goes-bad : k < n → at < length s → (e : ℕ) → opcode n s at k (fills_of f) ≡ Chunks.Head.bad e → answer_at e at k ≡ verdict s (decode n s)
-    goes-bad a b e h = rw (refused-bad a b e h)
 
     pub goes_on_lem : k < n → at < length s → (u m p : ℕ) → Told n s at k (opcode n s at k (fills_of f)) u m p → Behind n s p (k + m) (grown f u)
     goes_on_lem a l u m p t =
@@ -186,79 +156,77 @@ module _ (n : ℕ) (s : List ℕ) where
           few = few-grown f at p u g.counted.sixteen (omega (arith, t.small)) far g.few;
         }
 
-    -- the same with the counting beside it
-    pub goes-on-counted : k < n → at < length s → (u w p : ℕ) → Told n s at k (opcode n s at k (fills_of f)) u w p
-        → (m : List ℕ) (t r : Running) → StandsAt m g.st.made t 0 → Counts m u k w t r → Along n s m p (k + w) (grown f u) r
+    -- the same with what goes along
+    pub goes-on-beside : k < n → at < length s → (u w p : ℕ) → Told n s at k (opcode n s at k (fills_of f)) u w p
+        → (P Q : List Origin → Type 0) → P g.st.made → Advances P Q u k w → Beside n s p (k + w) (grown f u) Q
     unfolding goes_on_lem
-    goes-on-counted a l u w p t m x r tally counts =
+    goes-on-beside a l u w p t P Q tally advances =
         let b = body_at s at in
-        record { behind = goes_on_lem a l u w p t; tally = counts (part s b (once (kind_of u))) s (b + once (kind_of u)) g.st (sym g.ks) tally }
+        record { behind = goes_on_lem a l u w p t; tally = advances (part s b (once (kind_of u))) s (b + once (kind_of u)) g.st (sym g.ks) tally }
 
     pub refused-remain : k < n → length s ≤ at → decode n s ≡ refused (answer_at blocks_remain (length s) k)
     refused-remain a b = g.same ∙ loop-remains n s (length s) g.st (omega (arith, g.ks)) (omega (arith, g.ats)) ∙ rw g.ks
 
-    pub ends-remain : k < n → length s ≤ at → answer_at blocks_remain (length s) k ≡ verdict s (decode n s)
-    ends-remain a b = rw (refused-remain a b)
-
     pub refused-follow : n ≤ k → padding (drop at s) ≡ false → decode n s ≡ refused (answer_at bytes_follow at n)
     refused-follow a e = g.same ∙ loop-follows n s (length s) g.st (omega (arith, g.ks)) (rw (sym g.ats) e) ∙ rw g.ats
-
-    pub ends-follow : n ≤ k → padding (drop at s) ≡ false → answer_at bytes_follow at n ≡ verdict s (decode n s)
-    ends-follow a e = rw (refused-follow a e)
 
     pub accepted-ok : n ≤ k → padding (drop at s) ≡ true → decode n s ≡ accepted g.st.made
     accepted-ok a e = g.same ∙ loop-accepts n s (length s) g.st (omega (arith, g.ks)) (rw (sym g.ats) e)
 
-    pub ends-ok : n ≤ k → padding (drop at s) ≡ true → answer_at ok (length s) n ≡ verdict s (decode n s)
-    ends-ok a e =
-        let d = accepted-ok a e in
-        let all : n ≡ length g.st.made = omega (arith, g.most, g.ks) in
-        rw (d, all)
+accepted-verdict : (n : ℕ) (s : List ℕ) (o : Chunks.Outcome) (os : List Origin) (used : ℕ) → o ≡ accepted os → used ≡ length s → length os ≡ n
+    → answer_at ok used n ≡ verdict s o
+accepted-verdict n s o os used e q l = rw (e, q, ← l)
+
+-- what a refusal before the opcodes becomes
+pub err-is : {U : Type 0} (r : Result U Answer) (a : Answer) → IsErr r × IsErrAnd r (λ x. x ≡ a) → r ≡ Err a
+err-is (Ok u) a h = absurd (true≢false (sym h.0))
+err-is (Err x) a h = rw h.1
+
+-- how the check ends
+module _ {A : Type 0} (T : A → List Origin → Type 0) (n : ℕ) (s : List ℕ) where
+  pub concludes-refused : {a : Answer} → decode n s ≡ refused a → Concludes T n s (Err a) (decode n s)
+  concludes-refused e = rw e stops
+
+  pub concludes-accepted : (at k : ℕ) (f : List ℕ) (u : Used A) → u.length ≡ length s → Beside n s at k f (T u.along) → n ≤ k → padding (drop at s) ≡ true
+      → Concludes T n s (Ok u) (decode n s)
+  concludes-accepted at k f u e g a p =
+      let all : length g.behind.st.made ≡ n = omega (arith, g.behind.most, g.behind.ks) in
+      rw (accepted-ok n s at k f g.behind a p) (passes e all g.tally)
+
+  -- and what its end says
+  pub record Passed (u : Used A) (o : Chunks.Outcome) : Type 0 where
+    pub made : List Origin
+    pub is : o ≡ accepted made
+    pub used : u.length ≡ length s
+    pub all : length made ≡ n
+    pub tally : T u.along made
+
+  is-passed : {o : Chunks.Outcome} (u : Used A) → Concludes T n s (Ok u) o → Passed u o
+  is-passed u (passes {os = os} e l t) = record { made = os; is = refl; used = e; all = l; tally = t }
+
+  is-stopped : {o : Chunks.Outcome} (a : Answer) → Concludes T n s (Err a) o → o ≡ refused a
+  is-stopped a stops = refl
+
+  module _ (o : Chunks.Outcome) (r : Result (Used A) Answer) (c : Concludes T n s r o) where
+    pub passed : (u : Used A) → r ≡ Ok u → Passed u o
+    passed u e = is-passed u (subst (λ (r : Result (Used A) Answer). Concludes T n s r o) e c)
+
+    pub stopped : (a : Answer) → r ≡ Err a → o ≡ refused a
+    stopped a e = is-stopped a (subst (λ (r : Result (Used A) Answer). Concludes T n s r o) e c)
+
+    pub verdict-passed : (u : Used A) → r ≡ Ok u → answer_at ok u.length n ≡ verdict s o
+    verdict-passed u e = let p = passed u e in accepted-verdict n s o p.made u.length p.is p.used p.all
+
+    pub verdict-stopped : (a : Answer) → r ≡ Err a → a ≡ verdict s o
+    verdict-stopped a e = rw (stopped a e)
 
 -- what is counted in the end
-pub balanced-refused : (n : ℕ) (s m : List ℕ) (now : ℕ) (a : Answer) → decode n s ≡ refused a → Balanced m now (decode n s)
-balanced-refused n s m now a e = rw e nothing
+pub balanced-refused : (m : List ℕ) (o : Chunks.Outcome) (a : Answer) → o ≡ refused a → (now : ℕ) → Balanced m now o
+balanced-refused m o a e now = rw e nothing
 
-pub balanced-ok : (n : ℕ) (s m : List ℕ) (at k : ℕ) (f : List ℕ) (t : Running) → length m ≡ n → (g : Along n s m at k f t) → n ≤ k → padding (drop at s) ≡ true
-    → (now : ℕ) → now ≡ summed m t → Balanced m now (decode n s)
-balanced-ok n s m at k f t e g a p now en =
-    let ks = g.behind.ks in
-    let most = g.behind.most in
-    rw (accepted-ok n s at k f g.behind a p, en) (sums (tally-end m _ _ _ _ _ _ g.tally (omega (arith, ks, most, a, e))))
-
--- what the head of an opcode says to the counting
-data Sized (k : ℕ) : Chunks.Head → Type 0 where
-  unsized : {e : ℕ} → Sized k (Chunks.Head.bad e)
-  sized : {x : Kind} {w b : ℕ} (count : ℕ) → 1 ≤ count → w ≡ times x * count → reach x ≤ k → Sized k (Chunks.Head.runs x w b)
-
-count-some : (s : List ℕ) (at : ℕ) → 1 ≤ count_at s at
-unfolding count_at
-count-some s at = by-test (λ (n : ℕ). 1 ≤ n) _ (λ t. omega arith) (λ t. omega arith)
-
-sized-head : (n : ℕ) (s : List ℕ) (at k : ℕ) (filled : List ℕ) → Sized k (opcode n s at k filled)
-sized-head n s at k filled = by (known-head n s at k filled)
-  where
-    by : {x : Chunks.Head} → Known n s k filled (upper_at s at) (count_at s at) (body_at s at) x → Sized k x
-    by Heads.Known.bad = unsized
-    by (Heads.Known.good fit) = sized (count_at s at) (count-some s at) refl fit.before
-
-times-some : (u : ℕ) → u < 16 → 1 ≤ times (kind_of u)
-times-some u h = let e = at_most (λ u. 1 - times (kind_of u)) 0 16 refl u h in omega (arith, e)
-
-times-even : (t count : ℕ) → 1 ≤ t → t ≤ 2 → 1 ≤ count → (1 ≤ t * count) × ((t * count) % t ≡ 0)
-times-even zero count a b c = absurd (omega (arith, a))
-times-even (suc zero) count a b c = (omega (arith, c), omega arith)
-times-even (suc (suc zero)) count a b c = (omega (arith, c), omega arith)
-times-even (suc (suc (suc t))) count a b c = absurd (omega (arith, b))
-
-sized-counts : {k u w b : ℕ} → u < 15 → Sized k (Chunks.Head.runs (kind_of u) w b) → (1 ≤ w) × (reach (kind_of u) ≤ k) × (w % times (kind_of u) ≡ 0)
-sized-counts {u} h (sized count some e far) =
-    let q = times-even (times (kind_of u)) count (times-some u (omega (arith, h))) (times-small u (omega (arith, h))) some in
-    rw e (q.0, far, q.1)
-
-pub told-counts : (n : ℕ) (s : List ℕ) (at k : ℕ) (filled : List ℕ) (u w p : ℕ) → Told n s at k (opcode n s at k filled) u w p
-    → (1 ≤ w) × (reach (kind_of u) ≤ k) × (w % times (kind_of u) ≡ 0)
-told-counts n s at k filled u w p t = sized-counts t.small (subst (λ (x : Chunks.Head). Sized k x) t.head (sized-head n s at k filled))
+pub balanced-accepted : (m : List ℕ) (o : Chunks.Outcome) (t : Running) (made : List Origin) → o ≡ accepted made → length made ≡ length m
+    → (lent : List ℕ) → lent ≡ m → StandsAt lent made t 0 → (now : ℕ) → now ≡ summed lent t → Balanced m now o
+balanced-accepted m o t made e l lent q g now en = rw (e, en, q) (sums (tally-end m made _ _ _ _ _ (rw q at g) l))
 
 -- the refusals before any opcode
 pub refused-short : (n : ℕ) (s : List ℕ) → length s < 4 → decode n s ≡ refused (answer chunk_short 0)
@@ -268,14 +236,6 @@ refused-short n s h = rw (lt-ltb (length s) 4 h)
 pub refused-differs : (n : ℕ) (s : List ℕ) → 4 ≤ length s → (number 256 (part s 1 3) ≡ length s → ⊥) → decode n s ≡ refused (answer length_differs 0)
 unfolding decode if
 refused-differs n s h e = rw (le-ltb (length s) 4 h, ne_eqb (number 256 (part s 1 3)) (length s) e)
-
-pub ends-short : (n : ℕ) (s : List ℕ) → length s < 4 → answer chunk_short 0 ≡ verdict s (decode n s)
-unfolding decode if
-ends-short n s h = rw (lt-ltb (length s) 4 h)
-
-pub ends-differs : (n : ℕ) (s : List ℕ) → 4 ≤ length s → (number 256 (part s 1 3) ≡ length s → ⊥) → answer length_differs 0 ≡ verdict s (decode n s)
-unfolding decode if
-ends-differs n s h e = rw (le-ltb (length s) 4 h, ne_eqb (number 256 (part s 1 3)) (length s) e)
 
 pub stated-bytes : (s : List ℕ) → 4 ≤ length s → number 256 (part s 1 3) ≡ (get_or s 1 0 * 256 + get_or s 2 0) * 256 + get_or s 3 0
 stated-bytes s h = rw (part-listed s 1 3 (omega arith)) (omega arith)

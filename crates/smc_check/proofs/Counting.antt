@@ -1,5 +1,5 @@
 -- Bounds and lengths of opcodes by their first byte, each computed once over all of them. Assumes nothing.
-use Prim.Native.Nat.{ℕ, ◌+◌, ◌*◌, ◌/◌, ◌%◌, ◌<◌, ◌≤◌}
+use Prim.Native.Nat.{ℕ, ◌+◌, ◌-◌, ◌*◌, ◌/◌, ◌%◌, ◌<◌, ◌≤◌}
 use mathlib.Core.Path.{◌≡◌, refl}
 use mathlib.Core.List.{List}
 use mathlib.Core.Bool.{Bool, true, false}
@@ -11,10 +11,13 @@ use Rattle.spec.specs.Basics.{if}
 use Rattle.spec.specs.Chunks.{kind_of, counted, times, once, each, upper_at, count_at, body_at}
 use Rattle.spec.proofs.Computed.{test_at, agree_at, at_most}
 use Rattle.spec.proofs.Lists.{by-test}
-use Rattle.smc_check.specs.Checking.{span_of}
+use Rattle.smc_check.specs.Tables.{span_of}
 
 pub times-small : (u : ℕ) → u < 16 → times (kind_of u) ≤ 2
 times-small = at_most (λ u. times (kind_of u)) 2 16 refl
+
+pub times-some : (u : ℕ) → u < 16 → 1 ≤ times (kind_of u)
+times-some u h = let e = at_most (λ u. 1 - times (kind_of u)) 0 16 refl u h in omega (arith, e)
 
 pub span_small : (b : ℕ) → b < 256 → span_of b ≤ 257
 unfolding span_of if
@@ -27,6 +30,10 @@ each_none u h t = rw t at (agree_at (λ u. if (counted u) (each (kind_of u)) 0) 
 pub count_small : (s : List ℕ) (at : ℕ) → get_or s (at + 1) 0 < 256 → count_at s at ≤ 256
 unfolding count_at
 count_small s at h = by-test (λ (n : ℕ). n ≤ 256) _ (λ t. omega arith) (λ t. omega arith)
+
+pub count-some : (s : List ℕ) (at : ℕ) → 1 ≤ count_at s at
+unfolding count_at
+count-some s at = by-test (λ (n : ℕ). 1 ≤ n) _ (λ t. omega arith) (λ t. omega arith)
 
 -- the place after an opcode, by its first byte
 module _ (s : List ℕ) (at : ℕ) (byte : get_or s at 0 < 256) where

@@ -60,7 +60,7 @@ bits : passes (λ u. if (eqb (bit_and (10752 / 2 ^ u) 1) 1) (naming u) (not (nam
 unfolding naming if
 bits = refl
 
-same_test : (a b : Bool) → if a b (not b) ≡ true → a ≡ b
+pub same_test : (a b : Bool) → if a b (not b) ≡ true → a ≡ b
 unfolding if
 same_test true true h = refl
 same_test true false h = sym h

@@ -1,4 +1,5 @@
 pub mod Leads
+pub mod Zeros
 pub mod Counting
 pub mod Filling
 pub mod Ways

@@ -3,12 +3,14 @@ use Prim.Native.Nat.{ℕ, zero, suc, ◌+◌, ◌-◌, ◌*◌, ◌/◌, ◌%◌
 use mathlib.Core.Path.{◌≡◌, refl, sym, ap, ◌∙◌}
 use mathlib.Core.List.{List, [], ◌∷◌, ◌++◌, map, map-append}
 use mathlib.Core.Logic.{◌≢◌}
-use mathlib.Core.Bool.{true≢false}
+use mathlib.Core.Bool.{Bool, true, false, not, true≢false}
+use mir.Val.{bool_byte}
 use native.Mathlib.Nat.{mul-add, mul_comm, mul-le-mul, add-zero, zero-add, add-suc, suc-add}
+use native.Mathlib.Numerals.{add-one}
 use native.Mathlib.Omega.{arith}
 use lib.Dec.{ltb, eqb}
-use lib.ListN.{length, get_or, length-append, length-map, get_or-append}
-use lib.Seq.{get_or-append_seam, get_or-append-add}
+use lib.ListN.{length, get_or, take, drop, length-append, length-map, get_or-append}
+use lib.Seq.{get_or-append_seam, get_or-append-add, drop-cons}
 use borrow.Author.Tests.{eq-eqb, ne_eqb, eqb-true, lt-ltb, le-ltb}
 use Rattle.spec.specs.Basics.{if, from}
 use Rattle.spec.specs.Pictures.{Origin, given, held}
@@ -21,9 +23,13 @@ use Rattle.smc_check.specs.Tallying.{
   last_of,
   next_to_last,
   opened,
-  touch_of,
+  bit,
+  both,
+  is_settled,
+  left,
+  copied,
+  touched,
   second_of,
-  taken_of,
   Standing,
   StandsAt,
   Tallied,
@@ -32,7 +38,11 @@ use Rattle.smc_check.specs.Tallying.{
   Takes,
   Counts,
 }
+use Rattle.smc_check.specs.Going.{Made}
+use Rattle.smc_check.specs.Tables.{touches}
 use Rattle.smc_check.specs.declared.count.Running.{Running}
+use Rattle.smc_check.specs.declared.count.Block.{Block}
+use Rattle.smc_check.specs.declared.count.Block.TheVariants.{Settled, Skipped, Unsettled}
 use Rattle.spec.proofs.Lists.{by-test, none-or-one, length_from, get_d_map, get_or-from}
 use Rattle.spec.proofs.Origins.{length-remap}
 use Rattle.spec.proofs.Computed.{at_most}
@@ -83,6 +93,45 @@ pub open_in-most : (m : List ℕ) (a w : ℕ) → open_in m a w ≤ w
 unfolding open_in
 open_in-most m a zero = omega arith
 open_in-most m a (suc w) = let one = none-or-one (eqb (get_or m (a + w) 0) settled) in let rest = open_in-most m a w in omega (arith, one, rest)
+
+-- a part of it, a slice of the map
+pub open_in-slice : (m : List ℕ) (a w : ℕ) → a + w ≤ length m → unsettled (take w (drop a m)) ≡ open_in m a w
+unfolding open_in
+open_in-slice m a zero h = refl
+open_in-slice m a (suc w) h =
+    let l : a < length m = omega (arith, h) in
+    rw (drop-cons m a 0 l)
+    (ap (λ (n : ℕ). is_open (get_or m a 0) + n) (open_in-slice m (suc a) w (omega (arith, h))) ∙ sym (open_in-first m a w))
+
+-- tests as numbers: as the code adds them up, and of an entry
+pub byte-bit : (b : Bool) → bool_byte b ≡ bit b
+byte-bit true = refl
+byte-bit false = refl
+
+pub bit-small : (b : Bool) → bit b ≤ 1
+bit-small true = omega arith
+bit-small false = omega arith
+
+pub bit-open : (b : Bool) → bit (not b) ≡ if b 0 1
+unfolding if
+bit-open true = refl
+bit-open false = refl
+
+pub open_in-part : (m : List ℕ) (lo hi : ℕ) → lo ≤ hi → hi ≤ length m → unsettled (take (hi - lo) (drop lo m)) ≡ open_in m lo (hi - lo)
+open_in-part m lo hi a b = open_in-slice m lo (hi - lo) (omega (arith, a, b))
+
+-- the first i of some entries, and one more
+pub unsettled-more : (m : List ℕ) (i : ℕ) → i < length m → unsettled (take (i + 1) m) ≡ unsettled (take i m) + is_open (get_or m i 0)
+unsettled-more [] i h = absurd (omega (arith, h))
+unsettled-more (x ∷ m) zero h = omega arith
+unsettled-more (x ∷ m) (suc i) h =
+    let rest = rw add-one at (unsettled-more m i (omega (arith, h))) in
+    rw add-one (omega (arith, rest))
+
+pub unsettled-few : (m : List ℕ) (i : ℕ) → unsettled (take i m) ≤ i
+unsettled-few m zero = omega arith
+unsettled-few [] (suc i) = omega arith
+unsettled-few (x ∷ m) (suc i) = let one = open-small x in let rest = unsettled-few m i in omega (arith, one, rest)
 
 -- what has been made, with more at the end
 unsettled-append : (xs ys : List ℕ) → unsettled (xs ++ ys) ≡ unsettled xs + unsettled ys
@@ -186,22 +235,18 @@ module _ (m : List ℕ) where
       rw (two, copies-pair (2 * n) made e.some) (record { size = g.size ∙ omega arith; opens = g.opens ∙ omega arith }, rest.1)
 
 -- the entries of no block, or of one
-owed-few : (m : List ℕ) (k w : ℕ) → w ≤ 1 → open_in m k w ≡ taken_of w (is_open (get_or m k 0))
-unfolding taken_of open_in if
-owed-few m k zero h = refl
+owed-few : (m : List ℕ) (k w : ℕ) → w ≤ 1 → open_in m k w ≡ w * is_open (get_or m k 0)
+unfolding open_in
+owed-few m k zero h = omega arith
 owed-few m k (suc zero) h = rw (add-zero k) (omega arith)
 owed-few m k (suc (suc w)) h = absurd (omega (arith, h))
 
-second-few : (w one c : ℕ) → one ≤ 2 → c ≤ 2 → if (eqb w 1) one c ≤ 2
-second-few w one c h l = by-test (λ (x : ℕ). x ≤ 2) (eqb w 1) (λ t. h) (λ t. l)
-
 module _ (m : List ℕ) where
-  pub tally-start : Standing m [] (length m) 0 0 0 0 0
+  pub tally-start : Standing m [] (length m) Settled Settled 0 0 0
   unfolding open_in remap
   tally-start =
       record {
         balance = omega arith;
-        few = (omega arith, omega arith);
         begin = omega arith;
         past = omega arith;
         first = λ h. absurd (omega (arith, h));
@@ -220,12 +265,12 @@ module _ (m : List ℕ) where
       omega (arith, both, opens, b)
 
   -- nothing is owed
-  even : (made : List Origin) (now one two lo hi : ℕ) → Standing m made now one two lo hi 0
+  even : (made : List Origin) (now : ℕ) (one two : Block) (lo hi : ℕ) → Standing m made now one two lo hi 0
       → now + open_in m 0 (length made) ≡ length m + unsettled (remap made m) + open_in m lo (hi - lo)
   even made now one two lo hi t = let b = t.balance in omega (arith, b)
 
   -- enough is left to take open entries away
-  pub enough : (made : List Origin) (now one two lo hi owed : ℕ) → Standing m made now one two lo hi owed → length made ≤ length m
+  pub enough : (made : List Origin) (now : ℕ) (one two : Block) (lo hi owed : ℕ) → Standing m made now one two lo hi owed → length made ≤ length m
       → open_in m lo (hi - lo) + owed + (length m - length made) ≤ now
   enough made now one two lo hi owed t h =
       let most = open_in-most m 0 (length made) in
@@ -233,7 +278,7 @@ module _ (m : List ℕ) where
       omega (arith, most, b, h)
 
   -- blocks of which one thing is remembered
-  module _ (made new : List Origin) (c w one two : ℕ) (size : length new ≡ w) (some : 1 ≤ w)
+  module _ (made new : List Origin) (c : Block) (w : ℕ) (one two : Block) (size : length new ≡ w) (some : 1 ≤ w)
       (each : (j : ℕ) → j < w → opened m c (length made + j) ≡ open_of m (get_or new j (held 0)))
       (first : 1 ≤ length made → opened m one (length made - 1) ≡ open_of m (last_of made)) where
     len : length (made ++ new) ≡ length made + w
@@ -246,7 +291,7 @@ module _ (m : List ℕ) where
 
     second-adds : 2 ≤ length (made ++ new) → opened m (if (eqb w 1) one c) (length (made ++ new) - 2) ≡ open_of m (next_to_last (made ++ new))
     second-adds h =
-        by-test (λ (x : ℕ). opened m x (length (made ++ new) - 2) ≡ open_of m (next_to_last (made ++ new))) (eqb w 1)
+        by-test (λ (x : Block). opened m x (length (made ++ new) - 2) ≡ open_of m (next_to_last (made ++ new))) (eqb w 1)
         (λ t.
         let one : w ≡ 1 = eqb-true w 1 t in
         let l : 1 ≤ length made = omega (arith, one, h, len) in
@@ -258,9 +303,9 @@ module _ (m : List ℕ) where
         rw e (each (w - 2) (omega (arith, some, more)) ∙ ap (open_of m) (sym (get_or-append-add made new (w - 2) (held 0)))))
 
   -- skipped blocks: nothing is counted, and they are as they were lent
-  pub tally-skip : (made : List Origin) (now one two lo hi w : ℕ) → 1 ≤ w → Standing m made now one two lo hi 0
-      → Standing m (made ++ map held (from (length made) w)) now 1 (if (eqb w 1) one 1) lo hi 0
-  unfolding opened if
+  pub tally-skip : (made : List Origin) (now : ℕ) (one two : Block) (lo hi w : ℕ) → 1 ≤ w → Standing m made now one two lo hi 0
+      → Standing m (made ++ map held (from (length made) w)) now Skipped (if (eqb w 1) one Skipped) lo hi 0
+  unfolding if
   tally-skip made now one two lo hi w some t =
       let new = map held (from (length made) w) in
       let size : length new ≡ w = simp (length-map, length_from) in
@@ -270,34 +315,33 @@ module _ (m : List ℕ) where
         opens = made_more m made new
             ∙ ap (λ (n : ℕ). unsettled (remap made m) + n) (skips-open m (length made) w);
       } in
-      let each : (j : ℕ) → j < w → opened m 1 (length made + j) ≡ open_of m (get_or new j (held 0)) =
+      let each : (j : ℕ) → j < w → opened m Skipped (length made + j) ≡ open_of m (get_or new j (held 0)) =
       λ j h. ap (open_of m) (sym (get_d_map held (from (length made) w) j (held 0) 0 (rw length_from h) ∙ ap held (get_or-from (length made) w j 0 h))) in
       let b = grown made (made ++ new) now w _ _ g (even made now one two lo hi t) in
       let l = g.size in
       let past = t.past in
       record {
         balance = omega (arith, b);
-        few = (omega arith, second-few w one 1 t.few.0 (omega arith));
         begin = t.begin;
         past = omega (arith, l, past);
-        first = λ h. first-adds made new 1 w one two size some each t.first;
-        second = second-adds made new 1 w one two size some each t.first;
+        first = λ h. first-adds made new Skipped w one two size some each t.first;
+        second = second-adds made new Skipped w one two size some each t.first;
       }
 
   -- blocks that are settled by now
-  pub record Paints (made made' : List Origin) (one w : ℕ) : Type 0 where
+  pub record Paints (made made' : List Origin) (one : Block) (w : ℕ) : Type 0 where
     pub grows : Grows m made made' w 0
-    pub first : 1 ≤ length made' → opened m 0 (length made' - 1) ≡ open_of m (last_of made')
-    pub second : 2 ≤ length made' → opened m (if (eqb w 1) one 0) (length made' - 2) ≡ open_of m (next_to_last made')
+    pub first : 1 ≤ length made' → opened m Settled (length made' - 1) ≡ open_of m (last_of made')
+    pub second : 2 ≤ length made' → opened m (if (eqb w 1) one Settled) (length made' - 2) ≡ open_of m (next_to_last made')
 
-  pub paints-given : {A : Type 0} (f : A → List ℕ) (l : List A) (a : A) (made : List Origin) (now one two lo hi w : ℕ) → length l ≡ w → 1 ≤ w
+  pub paints-given : {A : Type 0} (f : A → List ℕ) (l : List A) (a : A) (made : List Origin) (now : ℕ) (one two : Block) (lo hi w : ℕ) → length l ≡ w → 1 ≤ w
       → Standing m made now one two lo hi 0
       → Paints made (made ++ map (λ i. given (f i)) l) one w
-  unfolding opened if
+  unfolding if
   paints-given f l a made now one two lo hi w len some t =
       let new = map (λ i. given (f i)) l in
       let size : length new ≡ w = length-map l (λ i. given (f i)) ∙ len in
-      let each : (j : ℕ) → j < w → opened m 0 (length made + j) ≡ open_of m (get_or new j (held 0)) =
+      let each : (j : ℕ) → j < w → opened m Settled (length made + j) ≡ open_of m (get_or new j (held 0)) =
       λ j h. ap (open_of m) (sym (get_d_map (λ i. given (f i)) l j (held 0) a (rw len h))) in
       record {
         grows = record {
@@ -305,20 +349,19 @@ module _ (m : List ℕ) where
           opens = made_more m made new
               ∙ ap (λ (n : ℕ). unsettled (remap made m) + n) (gives-open m f l);
         };
-        first = λ h. first-adds made new 0 w one two size some each t.first;
-        second = second-adds made new 0 w one two size some each t.first;
+        first = λ h. first-adds made new Settled w one two size some each t.first;
+        second = second-adds made new Settled w one two size some each t.first;
       }
 
   -- their entries are owed
-  pub tally-paint : (made made' : List Origin) (now one two lo hi w : ℕ) → Standing m made now one two lo hi 0 → Paints made made' one w
-      → Standing m made' now 0 (if (eqb w 1) one 0) lo hi (open_in m (length made) w)
+  pub tally-paint : (made made' : List Origin) (now : ℕ) (one two : Block) (lo hi w : ℕ) → Standing m made now one two lo hi 0 → Paints made made' one w
+      → Standing m made' now Settled (if (eqb w 1) one Settled) lo hi (open_in m (length made) w)
   tally-paint made made' now one two lo hi w t p =
       let b = grown made made' now w 0 _ p.grows (even made now one two lo hi t) in
       let l = p.grows.size in
       let past = t.past in
       record {
         balance = omega (arith, b);
-        few = (omega arith, second-few w one 0 t.few.0 (omega arith));
         begin = t.begin;
         past = omega (arith, l, past);
         first = p.first;
@@ -327,14 +370,14 @@ module _ (m : List ℕ) where
 
   -- What is owed is counted: a single entry at once; a run that goes on where the run before it ended, with that run; and where one does not,
   -- that run
-  module _ (made : List Origin) (now one two lo hi k w : ℕ) (inside : k + w ≤ length made) (most : length made ≤ length m)
+  module _ (made : List Origin) (now : ℕ) (one two : Block) (lo hi k w : ℕ) (inside : k + w ≤ length made) (most : length made ≤ length m)
       (t : Standing m made now one two lo hi (open_in m k w)) where
-    pub takes-few : w ≤ 1 → Standing m made (now - taken_of w (is_open (get_or m k 0))) one two lo hi 0
+    pub takes-few : w ≤ 1 → Standing m made (now - w * is_open (get_or m k 0)) one two lo hi 0
     takes-few h =
         let left = enough made now one two lo hi _ t most in
         let b = t.balance in
         let e = owed-few m k w h in
-        record { balance = omega (arith, b, left, e); few = t.few; begin = t.begin; past = t.past; first = t.first; second = t.second }
+        record { balance = omega (arith, b, left, e); begin = t.begin; past = t.past; first = t.first; second = t.second }
 
     pub takes-on : hi ≡ k → Standing m made now one two lo (k + w) 0
     takes-on e =
@@ -343,64 +386,54 @@ module _ (m : List ℕ) where
         let far : k + w - lo ≡ (hi - lo) + w = omega (arith, begin, e) in
         let there : lo + (hi - lo) ≡ k = omega (arith, begin, e) in
         let both = ap (λ (n : ℕ). open_in m lo n) far ∙ open_in-both m lo (hi - lo) w ∙ ap (λ (n : ℕ). open_in m lo (hi - lo) + open_in m n w) there in
-        record { balance = omega (arith, b, both); few = t.few; begin = omega (arith, begin, e); past = inside; first = t.first; second = t.second }
+        record { balance = omega (arith, b, both); begin = omega (arith, begin, e); past = inside; first = t.first; second = t.second }
 
     pub takes-anew : Standing m made (now - open_in m lo (hi - lo)) one two k (k + w) 0
     takes-anew =
         let left = enough made now one two lo hi _ t most in
         let b = t.balance in
         let run : k + w - k ≡ w = omega arith in
-        record { balance = rw run (omega (arith, b, left)); few = t.few; begin = omega arith; past = inside; first = t.first; second = t.second }
+        record { balance = rw run (omega (arith, b, left)); begin = omega arith; past = inside; first = t.first; second = t.second }
 
   -- copies
-  opened-known : (x j : ℕ) → x ≤ 1 → opened m (2 * x) j ≡ x
-  unfolding opened if
-  opened-known x j h = rw (ne_eqb (2 * x) 1 (λ e. omega (arith, e))) (omega (arith, h))
+  opened-copied : (a : Bool) (j : ℕ) → opened m (copied a) j ≡ bit a
+  opened-copied true j = refl
+  opened-copied false j = refl
 
-  open-known : (o : Origin) → open_of m o ≤ 1
-  open-known o = none-or-one (eqb (entry m o) settled)
-
-  ends_of : (made : List Origin) (now one two lo hi : ℕ) → Standing m made now one two lo hi 0 → 1 ≤ length made
-      → Ends m made (opened m one (length made - 1)) (opened m two (length made - 2))
-  ends_of made now one two lo hi t h = record { some = h; first = sym (t.first h); second = λ l. sym (t.second l) }
-
-  module _ (made : List Origin) (now one two lo hi : ℕ) (t : Standing m made now one two lo hi 0) where
-    copied-end : (made' : List Origin) (w u x y : ℕ) → Grows m made made' w u → Ends m made' x y → x ≤ 1 → y ≤ 1
-        → Standing m made' (now + u) (2 * x) (2 * y) lo hi (open_in m (length made) w)
-    copied-end made' w u x y g e hx hy =
-        let b = grown made made' now w u _ g (even made now one two lo hi t) in
+  module _ (made : List Origin) (now : ℕ) (one two : Block) (lo hi : ℕ) (t : Standing m made now one two lo hi 0) where
+    copied-end : (made' : List Origin) (w u : ℕ) (a b : Bool) → Grows m made made' w u → Ends m made' (bit a) (bit b)
+        → Standing m made' (now + u) (copied a) (copied b) lo hi (open_in m (length made) w)
+    copied-end made' w u a b g e =
+        let q = grown made made' now w u _ g (even made now one two lo hi t) in
         let l = g.size in
         let past = t.past in
         record {
-          balance = omega (arith, b);
-          few = (omega (arith, hx), omega (arith, hy));
+          balance = omega (arith, q);
           begin = t.begin;
           past = omega (arith, l, past);
-          first = λ h. opened-known x _ hx ∙ sym e.first;
-          second = λ h. opened-known y _ hy ∙ sym (e.second h);
+          first = λ h. opened-copied a _ ∙ sym e.first;
+          second = λ h. opened-copied b _ ∙ sym (e.second h);
         }
 
-    pub tally-before : (w : ℕ) → 1 ≤ length made
-        → let x = opened m one (length made - 1) in
-        Standing m (copies 1 (suc w) made) (now + suc w * x) (2 * x) (2 * x) lo hi (open_in m (length made) (suc w))
-    tally-before w h =
-        let e = ends_of made now one two lo hi t h in
-        let few : opened m one (length made - 1) ≤ 1 = rw (t.first h) (open-known (last_of made)) in
-        copied-end _ (suc w) _ _ _ (copies-before m (suc w) made _ _ e) (ends-before m w made _ _ e) few few
+    -- a and b: how open the last block is, and the one before it
+    module _ (a : Bool) (ea : bit a ≡ opened m one (length made - 1)) where
+      pub tally-before : (w : ℕ) → 1 ≤ length made
+          → Standing m (copies 1 (suc w) made) (now + suc w * bit a) (copied a) (copied a) lo hi (open_in m (length made) (suc w))
+      tally-before w h =
+          let e : Ends m made (bit a) (opened m two (length made - 2)) =
+          record { some = h; first = sym (ea ∙ t.first h); second = λ l. sym (t.second l) } in
+          copied-end _ (suc w) _ a a (copies-before m (suc w) made _ _ e) (ends-before m w made _ _ e)
 
-    pub tally-two : (n : ℕ) → 2 ≤ length made
-        → let x = opened m one (length made - 1) in
-        let y = opened m two (length made - 2) in
-        Standing m (copies 2 (2 * n) made) (now + n * (x + y)) (2 * x) (2 * y) lo hi (open_in m (length made) (2 * n))
-    tally-two n h =
-        let e = ends_of made now one two lo hi t (omega (arith, h)) in
-        let few : opened m one (length made - 1) ≤ 1 = rw (t.first (omega (arith, h))) (open-known (last_of made)) in
-        let few' : opened m two (length made - 2) ≤ 1 = rw (t.second h) (open-known (next_to_last made)) in
-        let c = copies-two m n made _ _ h e in
-        copied-end _ (2 * n) _ _ _ c.0 c.1 few few'
+      pub tally-two : (b : Bool) → bit b ≡ opened m two (length made - 2) → (n : ℕ) → 2 ≤ length made
+          → Standing m (copies 2 (2 * n) made) (now + n * (bit a + bit b)) (copied a) (copied b) lo hi (open_in m (length made) (2 * n))
+      tally-two b eb n h =
+          let e : Ends m made (bit a) (bit b) =
+          record { some = omega (arith, h); first = sym (ea ∙ t.first (omega (arith, h))); second = λ l. sym (eb ∙ t.second l) } in
+          let c = copies-two m n made _ _ h e in
+          copied-end _ (2 * n) _ a b c.0 c.1
 
   -- every block has had its turn: what is counted is the change of the count
-  pub tally-end : (os : List Origin) (now one two lo hi : ℕ) → Standing m os now one two lo hi 0 → length os ≡ length m
+  pub tally-end : (os : List Origin) (now : ℕ) (one two : Block) (lo hi : ℕ) → Standing m os now one two lo hi 0 → length os ≡ length m
       → now - open_in m lo (hi - lo) + newly_settled m (remap os m) ≡ length m + newly_unsettled m (remap os m)
   tally-end os now one two lo hi t e =
       let left = enough os now one two lo hi 0 t (omega (arith, e)) in
@@ -414,6 +447,13 @@ module _ (m : List ℕ) where
       → recount os m kept ≡ kept + now - length m
   unfolding recount
   recount-by os now kept e = omega (arith, e)
+
+both-parts : (a b : Block) → both a b ≡ true → (a ≡ Settled) × (b ≡ Settled)
+both-parts Settled Settled h = (refl, refl)
+both-parts Settled Skipped h = absurd (true≢false (sym h))
+both-parts Settled Unsettled h = absurd (true≢false (sym h))
+both-parts Skipped b h = absurd (true≢false (sym h))
+both-parts Unsettled b h = absurd (true≢false (sym h))
 
 -- the opcodes by what they do to the count: skips, copies of the block before and of two before, and those that give pixels
 data Gives : Kind → Type 0 where
@@ -446,7 +486,7 @@ sort (suc (suc (suc (suc (suc (suc (suc (suc (suc (suc (suc (suc (suc zero))))))
 sort (suc (suc (suc (suc (suc (suc (suc (suc (suc (suc (suc (suc (suc (suc zero)))))))))))))) h = gives (omega arith) wholly
 sort (suc (suc (suc (suc (suc (suc (suc (suc (suc (suc (suc (suc (suc (suc (suc u))))))))))))))) h = absurd (omega (arith, h))
 
-module _ (m : List ℕ) (st : State) (now one two lo hi : ℕ) (t : Standing m st.made now one two lo hi 0) (w : ℕ) (some : 1 ≤ w) where
+module _ (m : List ℕ) (st : State) (now : ℕ) (one two : Block) (lo hi : ℕ) (t : Standing m st.made now one two lo hi 0) (w : ℕ) (some : 1 ≤ w) where
   paints-kind : {k : Kind} (hs s : List ℕ) (at : ℕ) → Gives k → Paints m st.made (extend k hs s at w st) one w
   unfolding extend blocks_by
   paints-kind hs s at filled = paints-given m _ (from 0 w) 0 st.made now one two lo hi w (length_from 0 w) some t
@@ -455,24 +495,22 @@ module _ (m : List ℕ) (st : State) (now one two lo hi : ℕ) (t : Standing m s
   paints-kind hs s at naming = paints-given m _ (from 0 w) 0 st.made now one two lo hi w (length_from 0 w) some t
 
   -- copies of blocks that are settled by now
-  module _ (z : one + two ≡ 0) where
+  module _ (z : both one two ≡ true) where
     both-settled : 1 ≤ length st.made → Ends m st.made 0 0
     both-settled h =
-        let e1 : one ≡ 0 = omega (arith, z) in
-        let e2 : two ≡ 0 = omega (arith, z) in
-        let first = ap (λ (c : ℕ). opened m c (length st.made - 1)) (sym e1) ∙ t.first h in
-        let second : 2 ≤ length st.made → opened m 0 (length st.made - 2) ≡ open_of m (next_to_last st.made) =
-        λ l. ap (λ (c : ℕ). opened m c (length st.made - 2)) (sym e2) ∙ t.second l in
-        record { some = h; first = sym first ∙ opened-known m 0 _ (omega arith); second = λ l. sym (second l) ∙ opened-known m 0 _ (omega arith) }
+        let e = both-parts one two z in
+        let first : 0 ≡ open_of m (last_of st.made) = ap (λ (c : Block). opened m c (length st.made - 1)) (sym e.0) ∙ t.first h in
+        let second : 2 ≤ length st.made → 0 ≡ open_of m (next_to_last st.made) =
+        λ l. ap (λ (c : Block). opened m c (length st.made - 2)) (sym e.1) ∙ t.second l in
+        record { some = h; first = sym first; second = λ l. sym (second l) }
 
     settled-either : (made' : List Origin) → Grows m st.made made' w 0 → Ends m made' 0 0 → Paints m st.made made' one w
     settled-either made' g e =
-        let e1 : one ≡ 0 = omega (arith, z) in
         record {
           grows = g;
-          first = λ h. opened-known m 0 _ (omega arith) ∙ sym e.first;
-          second = λ h. by-test (λ (c : ℕ). opened m c (length made' - 2) ≡ open_of m (next_to_last made')) (eqb w 1)
-              (λ b. rw e1 (opened-known m 0 _ (omega arith) ∙ sym (e.second h))) (λ b. opened-known m 0 _ (omega arith) ∙ sym (e.second h));
+          first = λ h. sym e.first;
+          second = λ h. by-test (λ (c : Block). opened m c (length made' - 2) ≡ open_of m (next_to_last made')) (eqb w 1)
+              (λ b. rw (both-parts one two z).0 (sym (e.second h))) (λ b. sym (e.second h));
         }
 
     paints-before : 1 ≤ length st.made → Paints m st.made (copies 1 w st.made) one w
@@ -490,42 +528,60 @@ module _ (m : List ℕ) (st : State) (now one two lo hi : ℕ) (t : Standing m s
         settled-either _ (record { size = g.size; opens = g.opens ∙ omega arith }) (rw v at c.1)
 
 -- what an opcode touches
-pub touch-none : (u : ℕ) → u < 2 → touch_of u ≡ 0
-unfolding touch_of if
-touch-none u h = rw (lt-ltb u 2 h)
+touches-none : (u : ℕ) → u < 2 → touches u ≡ false
+touches-none u h = rw (lt-ltb u 2 h)
 
-pub touch-one : (u : ℕ) → 2 ≤ u → touch_of u ≡ 1
-unfolding touch_of if
-touch-one u h = rw (le-ltb u 2 h)
+touches-some : (u : ℕ) → 2 ≤ u → touches u ≡ true
+touches-some u h = rw (le-ltb u 2 h)
 
-pub touch-small : (u : ℕ) → touch_of u ≤ 1
-unfolding touch_of
-touch-small u = by-test (λ (x : ℕ). x ≤ 1) (ltb u 2) (λ t. omega arith) (λ t. omega arith)
+touched-none : (u w : ℕ) → u < 2 → touched u w ≡ 0
+unfolding touched
+touched-none u w h = rw (touches-none u h) (omega arith)
+
+touched-all : (u w : ℕ) → 2 ≤ u → touched u w ≡ w
+unfolding touched
+touched-all u w h = rw (touches-some u h) (omega arith)
+
+touched-most : (u w : ℕ) → touched u w ≤ w
+unfolding touched
+touched-most u w = by (touches u)
+  where
+    by : (b : Bool) → bit b * w ≤ w
+    by true = omega arith
+    by false = omega arith
+
+-- as the code makes it
+pub touched-by : (u w : ℕ) (b : Bool) → b ≡ touches u → (x : ℕ) → x ≡ bool_byte b → x * w ≡ touched u w
+unfolding touched
+touched-by u w b e x ex = rw (ex, byte-bit, e)
 
 -- one law for each way out of the code's step
 module _ (m : List ℕ) (u k w : ℕ) (t : Running) (known : u < 15) (some : 1 ≤ w) (even : w % times (kind_of u) ≡ 0) (far : reach (kind_of u) ≤ k) where
-  module _ (st : State) (size : length st.made ≡ k) (g : StandsAt m st.made t 0) (hs s : List ℕ) (at : ℕ)
-      (z : reach (kind_of u) * (t.one + t.two) ≡ 0) where
+  module _ (st : State) (size : length st.made ≡ k) (g : StandsAt m st.made t 0) (hs s : List ℕ) (at : ℕ) where
     painted : {made' : List Origin} → 2 ≤ u → Paints m st.made made' t.one w
-        → Standing m made' t.now (1 - touch_of u) (second_of t.one (1 - touch_of u) w) t.lo t.hi (open_in m k (touch_of u * w))
+        → Standing m made' t.now (left (touches u)) (second_of t.one (left (touches u)) w) t.lo t.hi (open_in m k (touched u w))
     unfolding second_of
-    painted l p =
-        let one : touch_of u * w ≡ w = rw (touch-one u l) (omega arith) in
-        rw (one, touch-one u l, ← size) (tally-paint m st.made _ _ _ _ _ _ w g p)
+    painted l p = rw (touched-all u w l, touches-some u l, ← size) (tally-paint m st.made _ _ _ _ _ _ w g p)
 
-    by-sort : {x : Kind} → Sort u x → reach x ≤ k → w % times x ≡ 0 → reach x * (t.one + t.two) ≡ 0
-        → Standing m (extend x hs s at w st) t.now (1 - touch_of u) (second_of t.one (1 - touch_of u) w) t.lo t.hi (open_in m k (touch_of u * w))
+    by-sort : {x : Kind} → Sort u x → reach x ≤ k → w % times x ≡ 0 → (0 < reach x → both t.one t.two ≡ true)
+        → Standing m (extend x hs s at w st) t.now (left (touches u)) (second_of t.one (left (touches u)) w) t.lo t.hi (open_in m k (touched u w))
     unfolding extend second_of open_in
-    by-sort (skips l) f e z =
-        let none : touch_of u * w ≡ 0 = rw (touch-none u l) (omega arith) in
-        rw (none, touch-none u l) (tally-skip m st.made _ _ _ _ _ w some g)
-    by-sort (repeats l b) f e z = painted l (paints-before m st _ _ _ _ _ g w some (omega (arith, z)) (omega (arith, f, size)))
-    by-sort (pairs l b) f e z = painted (omega (arith, l)) (paints-two m st _ _ _ _ _ g w some (omega (arith, z)) (omega (arith, f, size)) e)
+    by-sort (skips l) f e z = rw (touched-none u w l, touches-none u l) (tally-skip m st.made _ _ _ _ _ w some g)
+    by-sort (repeats l b) f e z = painted l (paints-before m st _ _ _ _ _ g w some (z (omega arith)) (omega (arith, f, size)))
+    by-sort (pairs l b) f e z = painted (omega (arith, l)) (paints-two m st _ _ _ _ _ g w some (z (omega arith)) (omega (arith, f, size)) e)
     by-sort (gives l x) f e z = painted l (paints-kind m st _ _ _ _ _ g w some hs s at x)
 
-  pub notes-plain : reach (kind_of u) * (t.one + t.two) ≡ 0
-      → Notes m u k w t (record { now = t.now; one = 1 - touch_of u; two = second_of t.one (1 - touch_of u) w; lo = t.lo; hi = t.hi })
-  notes-plain z hs s at st size g = by-sort st size g hs s at z (sort u known) far even z
+  pub notes-plain : (0 < reach (kind_of u) → both t.one t.two ≡ true)
+      → Notes m u k w t (record { now = t.now; one = left (touches u); two = second_of t.one (left (touches u)) w; lo = t.lo; hi = t.hi })
+  notes-plain z hs s at st size g = by-sort st size g hs s at (sort u known) far even z
+
+pub looked-back : (t : Running) (r : ℕ) → r ≤ if (is_settled t) 2 0 → 0 < r → is_settled t ≡ true
+unfolding if
+looked-back t r h some = by (is_settled t) h
+  where
+    by : (b : Bool) → r ≤ if b 2 0 → b ≡ true
+    by true h = refl
+    by false h = absurd (omega (arith, h, some))
 
 -- copies of blocks that may be open
 pub kind-repeats : (u : ℕ) → 2 ≤ u → u < 4 → kind_of u ≡ copy 1
@@ -564,16 +620,6 @@ module _ (m : List ℕ) (k : ℕ) (t : Running) (g : Tallied m k t) where
   pub lo-hi : (t.lo ≤ t.hi) × (t.hi ≤ k)
   lo-hi = (g.tally.begin, rw (← g.size) g.tally.past)
 
-  pub one-small : 1 ≤ k → opened m t.one (k - 1) ≤ 1
-  one-small h =
-      let e : length g.made - 1 ≡ k - 1 = rw g.size in
-      rw (← e, g.tally.first (rw g.size h)) (open-known m (last_of g.made))
-
-  pub two-small : 2 ≤ k → opened m t.two (k - 2) ≤ 1
-  two-small h =
-      let e : length g.made - 2 ≡ k - 2 = rw g.size in
-      rw (← e, g.tally.second (rw g.size h)) (open-known m (next_to_last g.made))
-
 -- the same while entries are owed
 module _ (m : List ℕ) (k w : ℕ) (t : Running) (g : Owing m k w t) where
   pub owing-least : open_in m t.lo (t.hi - t.lo) + open_in m k w ≤ t.now
@@ -584,27 +630,25 @@ module _ (m : List ℕ) (k w : ℕ) (t : Running) (g : Owing m k w t) where
   pub owing-lo-hi : (t.lo ≤ t.hi) × (t.hi ≤ length m)
   owing-lo-hi = let past = g.tally.past in let most = g.most in (g.tally.begin, omega (arith, past, most))
 
-  pub owing-few : w ≤ 1 → taken_of w (is_open (get_or m k 0)) ≤ t.now
+  pub owing-few : w ≤ 1 → w * is_open (get_or m k 0) ≤ t.now
   owing-few h = let e = owed-few m k w h in omega (arith, e, owing-least)
 
 module _ (m : List ℕ) (u k w : ℕ) (t : Running) (some : 1 ≤ w) where
-  pub notes-repeats : 2 ≤ u → kind_of u ≡ copy 1 → 1 ≤ k → (x : ℕ) → x ≡ opened m t.one (k - 1)
-      → Notes m u k w t (record { now = t.now + w * x; one = 2 * x; two = 2 * x; lo = t.lo; hi = t.hi })
+  pub notes-repeats : 2 ≤ u → kind_of u ≡ copy 1 → 1 ≤ k → (a : Bool) → bit a ≡ opened m t.one (k - 1)
+      → Notes m u k w t (record { now = t.now + w * bit a; one = copied a; two = copied a; lo = t.lo; hi = t.hi })
   unfolding extend
-  notes-repeats l e h x ex hs s at st size g =
+  notes-repeats l e h a ea hs s at st size g =
       let v : suc (w - 1) ≡ w = omega (arith, some) in
-      let one : touch_of u * w ≡ w = rw (touch-one u l) (omega arith) in
-      let q = rw (v, size, ← ex) at (tally-before m st.made _ _ _ _ _ g (w - 1) (omega (arith, size, h))) in
-      rw (e, one) q
+      let q = rw (v, size) at (tally-before m st.made _ _ _ _ _ g a (rw size ea) (w - 1) (omega (arith, size, h))) in
+      rw (e, touched-all u w l) q
 
-  pub notes-pairs : 2 ≤ u → kind_of u ≡ copy 2 → 2 ≤ k → w % 2 ≡ 0 → (x y : ℕ) → x ≡ opened m t.one (k - 1) → y ≡ opened m t.two (k - 2)
-      → Notes m u k w t (record { now = t.now + w / 2 * (x + y); one = 2 * x; two = 2 * y; lo = t.lo; hi = t.hi })
+  pub notes-pairs : 2 ≤ u → kind_of u ≡ copy 2 → 2 ≤ k → w % 2 ≡ 0 → (a b : Bool) → bit a ≡ opened m t.one (k - 1) → bit b ≡ opened m t.two (k - 2)
+      → Notes m u k w t (record { now = t.now + w / 2 * (bit a + bit b); one = copied a; two = copied b; lo = t.lo; hi = t.hi })
   unfolding extend
-  notes-pairs l e h even x y ex ey hs s at st size g =
+  notes-pairs l e h even a b ea eb hs s at st size g =
       let v : 2 * (w / 2) ≡ w = omega (arith, even) in
-      let one : touch_of u * w ≡ w = rw (touch-one u l) (omega arith) in
-      let q = rw (v, size, ← ex, ← ey) at (tally-two m st.made _ _ _ _ _ g (w / 2) (omega (arith, size, h))) in
-      rw (e, one) q
+      let q = rw (v, size) at (tally-two m st.made _ _ _ _ _ g a (rw size ea) b (rw size eb) (w / 2) (omega (arith, size, h))) in
+      rw (e, touched-all u w l) q
 
 pub product_small : (w x : ℕ) → x ≤ 1 → w * x ≤ w
 product_small w zero h = omega arith
@@ -613,7 +657,7 @@ product_small w (suc (suc x)) h = absurd (omega (arith, h))
 
 -- the second step's ways out
 module _ (m : List ℕ) (k w : ℕ) (t : Running) where
-  pub taken-few : w ≤ 1 → Takes m k w t (record { now = t.now - taken_of w (is_open (get_or m k 0)); one = t.one; two = t.two; lo = t.lo; hi = t.hi })
+  pub taken-few : w ≤ 1 → Takes m k w t (record { now = t.now - w * is_open (get_or m k 0); one = t.one; two = t.two; lo = t.lo; hi = t.hi })
   taken-few h made inside most g = takes-few m made _ _ _ _ _ k w inside most g h
 
   pub taken-on : t.hi ≡ k → Takes m k w t (record { now = t.now; one = t.one; two = t.two; lo = t.lo; hi = k + w })
@@ -623,27 +667,25 @@ module _ (m : List ℕ) (k w : ℕ) (t : Running) where
   taken-anew made inside most g = takes-anew m made _ _ _ _ _ k w inside most g
 
 -- both steps
-pub owing-noted : (m : List ℕ) (u k w : ℕ) (t r : Running) → k + w ≤ length m → 1 ≤ w → (g : Tallied m k t) → Notes m u k w t r → Owing m k (touch_of u * w) r
+pub owing-noted : (m : List ℕ) (u k w : ℕ) (t r : Running) → k + w ≤ length m → 1 ≤ w → (g : Tallied m k t) → Notes m u k w t r → Owing m k (touched u w) r
 owing-noted m u k w t r room some g n =
     let st : State = record { at = 0; made = g.made; tables = [] } in
     let l = length-extend (kind_of u) [] [] 0 w st in
     let size = g.size in
-    let one = product_small w (touch_of u) (touch-small u) in
-    let both : touch_of u * w ≤ w = rw (mul_comm (touch_of u) w) one in
+    let most = touched-most u w in
     record {
       made = extend (kind_of u) [] [] 0 w st;
       start = omega (arith, room, some);
-      inside = omega (arith, l, size, both);
+      inside = omega (arith, l, size, most);
       most = omega (arith, l, size, room);
       tally = n [] [] 0 st size g.tally;
     }
 
-pub counts-both : (m : List ℕ) (u k w : ℕ) (t n r : Running) → k + w ≤ length m → Notes m u k w t n → Takes m k (touch_of u * w) n r → Counts m u k w t r
+pub counts-both : (m : List ℕ) (u k w : ℕ) (t n r : Running) → k + w ≤ length m → Notes m u k w t n → Takes m k (touched u w) n r → Counts m u k w t r
 counts-both m u k w t n r room a b hs s at st size g =
     let l = length-extend (kind_of u) hs s at w st in
-    let one = product_small w (touch_of u) (touch-small u) in
-    let both : touch_of u * w ≤ w = rw (mul_comm (touch_of u) w) one in
-    b _ (omega (arith, l, size, both)) (omega (arith, l, size, room)) (a hs s at st size g)
+    let most = touched-most u w in
+    b _ (omega (arith, l, size, most)) (omega (arith, l, size, room)) (a hs s at st size g)
 
 pub reach-some : (u : ℕ) → 2 ≤ u → u < 6 → 1 ≤ reach (kind_of u)
 reach-some zero a b = absurd (omega (arith, a))
@@ -682,13 +724,3 @@ copies-only (gives l naming) h = absurd (omega (arith, h))
 
 pub is-copy : (u : ℕ) → u < 15 → 0 < reach (kind_of u) → (2 ≤ u) × (u < 6)
 is-copy u l h = copies-only (sort u l) h
-
-pub none-reached : (r x y : ℕ) → r ≡ y → r * x ≤ 0 → y * x ≡ 0
-none-reached r x y e h = rw (← e) (omega (arith, h))
-
-pub some-reached : (r x y : ℕ) → r ≡ y → 0 < r * x → 0 < y
-some-reached zero x y e h = absurd (omega (arith, h))
-some-reached (suc r) x y e h = omega (arith, e)
-
-pub under-two : (r x : ℕ) → r ≤ 2 → x ≤ 4 → r * x ≤ 8
-under-two r x a b = mul-le-mul {n₂ = 2} {m₂ = 4} a b

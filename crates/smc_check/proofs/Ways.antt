@@ -1,18 +1,16 @@
 -- Each way out of the check of one opcode, over the numbers that the code holds. Assumes nothing.
-use Prim.Native.Nat.{ℕ, ◌+◌, ◌*◌, ◌<◌, ◌≤◌}
+use Prim.Native.Nat.{ℕ, zero, suc, ◌+◌, ◌*◌, ◌%◌, ◌<◌, ◌≤◌}
 use mathlib.Core.Path.{◌≡◌, refl, sym, ◌∙◌}
 use mathlib.Core.List.{List}
 use mathlib.Core.Bool.{true, false}
+use Rattle.std.specs.Prelude.{Ok, Err}
 use native.Mathlib.Nat.{mul-le-mul}
 use native.Mathlib.Decide.{dec_lt}
 use native.Mathlib.Omega.{arith}
 use lib.ListN.{length, get_or}
 use Rattle.spec.specs.Answers.{opcode_cut, opcode_unknown, none_before, past_last_block, entry_empty}
 use Rattle.spec.specs.Chunks.{Head, kind_of, times, reach, once, each, missing, body, upper_at, count_at, body_at, opcode}
-use Rattle.spec.proofs.Heads as Heads
 use Rattle.spec.proofs.Heads.{
-  Known,
-  known-head,
   body-none-before,
   body-past,
   body-cut-once,
@@ -23,11 +21,14 @@ use Rattle.spec.proofs.Heads.{
   opcode-cut,
   opcode-body,
 }
-use Rattle.smc_check.specs.declared.check.Head.TheVariants.{Bad, Runs}
+use Rattle.spec.specs.declared.Refusal.{Refusal}
+use Rattle.spec.specs.Answers.{refusal_number}
+use Rattle.smc_check.specs.declared.here.Run.{Run}
 use Rattle.smc_check.specs.declared.heads.Lead.{Lead}
 use Rattle.smc_check.specs.Heads.{Leads}
-use Rattle.smc_check.specs.Checking.{span_of, Stands, Ends, Tells, bad, runs, Hints, ends}
-use Rattle.smc_check.proofs.Counting.{span-end, unknown-span, times-small, count_small}
+use Rattle.smc_check.specs.Tables.{span_of}
+use Rattle.smc_check.specs.Checking.{Stands, Ends, Found, bad, runs}
+use Rattle.smc_check.proofs.Counting.{span-end, unknown-span, times-small, times-some, count_small, count-some}
 
 -- an opcode whose bytes all stand in the chunk has its count there, and its bytes that come once
 module _ {s : List ℕ} {at span : ℕ} (g : Stands s at span) (byte : get_or s at 0 < 256) where
@@ -56,53 +57,61 @@ module _ {s : List ℕ} {at : ℕ} {l : Lead} (el : Leads s at l) where
   pub blocks-small : get_or s at 0 < 256 → get_or s (at + 1) 0 < 256 → {t : ℕ} → t ≡ times (kind_of l.upper) → t * l.count ≤ 2 * 256
   blocks-small h g {t} et = mul-le-mul {n₂ = 2} {m₂ = 256} (rw et (times-small l.upper (upper-small h))) (rw el.count (count_small s at g))
 
+-- an opcode makes some blocks, pairs of them where it copies from two before
+times-even : (t count : ℕ) → 1 ≤ t → t ≤ 2 → 1 ≤ count → (1 ≤ t * count) × ((t * count) % t ≡ 0)
+times-even zero count a b c = absurd (omega (arith, a))
+times-even (suc zero) count a b c = (omega (arith, c), omega arith)
+times-even (suc (suc zero)) count a b c = (omega (arith, c), omega arith)
+times-even (suc (suc (suc t))) count a b c = absurd (omega (arith, b))
+
+pub blocks-even : {s : List ℕ} {at : ℕ} {l : Lead} (el : Leads s at l) → l.upper < 16 → (t : ℕ) → t ≡ times (kind_of l.upper)
+    → (1 ≤ t * l.count) × ((t * l.count) % times (kind_of l.upper) ≡ 0)
+blocks-even {s} {at} {l} el h t et =
+    let some : 1 ≤ l.count = rw el.count (count-some s at) in
+    rw et (times-even (times (kind_of l.upper)) l.count (times-some l.upper h) (times-small l.upper h) some)
+
 module _ (n : ℕ) (s : List ℕ) (at k : ℕ) (filled : List ℕ) where
-  pub way_unknown : 15 ≤ upper_at s at → Tells s at (Bad opcode_unknown) (opcode n s at k filled)
-  way_unknown h = rw (opcode-unknown n s at k filled h) bad
+  pub way_unknown : 15 ≤ upper_at s at → opcode n s at k filled ≡ Head.bad opcode_unknown
+  way_unknown h = opcode-unknown n s at k filled h
 
-  pub way-cut-count : upper_at s at < 15 → length s < body_at s at → Tells s at (Bad opcode_cut) (opcode n s at k filled)
-  way-cut-count l h = rw (opcode-cut n s at k filled l h) bad
+  pub way-cut-count : upper_at s at < 15 → length s < body_at s at → opcode n s at k filled ≡ Head.bad opcode_cut
+  way-cut-count l h = opcode-cut n s at k filled l h
 
-  -- l is the lead, and r, t and o the numbers for `reach`, `times` and `once`
-  module _ (l : Lead) (el : Leads s at l) (known : l.upper < 15) (count : l.body ≤ length s) (r : ℕ) (er : r ≡ reach (kind_of l.upper)) where
+  -- l is the lead, and r', t and o the numbers for `reach`, `times` and `once`
+  module _ (l : Lead) (el : Leads s at l) (known : l.upper < 15) (count : l.body ≤ length s) (r' : ℕ) (er : r' ≡ reach (kind_of l.upper)) where
     is_body : opcode n s at k filled ≡ body n s k filled l.upper l.count l.body
     is_body = rw (el.upper, el.count, el.body) (opcode-body n s at k filled (rw el.upper at known) (rw el.body at count))
 
-    pub way-none-before : k < r → Tells s at (Bad none_before) (opcode n s at k filled)
-    way-none-before h = rw (is_body ∙ body-none-before n s k filled l.upper l.count l.body r er h) bad
+    pub way-none-before : k < r' → opcode n s at k filled ≡ Head.bad none_before
+    way-none-before h = is_body ∙ body-none-before n s k filled l.upper l.count l.body r' er h
 
-    module _ (a : r ≤ k) (t : ℕ) (et : t ≡ times (kind_of l.upper)) where
-      pub way-past : n < k + t * l.count → Tells s at (Bad past_last_block) (opcode n s at k filled)
-      way-past h = rw (is_body ∙ body-past n s k filled l.upper l.count l.body r er a t et h) bad
+    module _ (a : r' ≤ k) (t : ℕ) (et : t ≡ times (kind_of l.upper)) where
+      pub way-past : n < k + t * l.count → opcode n s at k filled ≡ Head.bad past_last_block
+      way-past h = is_body ∙ body-past n s k filled l.upper l.count l.body r' er a t et h
 
       module _ (b : k + t * l.count ≤ n) where
-        pub way-cut-once : length s < l.body + once (kind_of l.upper) → Tells s at (Bad opcode_cut) (opcode n s at k filled)
-        way-cut-once h = rw (is_body ∙ body-cut-once n s k filled l.upper l.count l.body r er a t et b _ refl h) bad
+        pub way-cut-once : length s < l.body + once (kind_of l.upper) → opcode n s at k filled ≡ Head.bad opcode_cut
+        way-cut-once h = is_body ∙ body-cut-once n s k filled l.upper l.count l.body r' er a t et b _ refl h
 
         module _ (d : l.body + once (kind_of l.upper) ≤ length s) where
-          pub way-empty : missing filled (kind_of l.upper) (get_or s l.body 0) ≡ true → Tells s at (Bad entry_empty) (opcode n s at k filled)
-          way-empty h = rw (is_body ∙ body-empty n s k filled l.upper l.count l.body r er a t et b _ refl d h) bad
+          pub way-empty : missing filled (kind_of l.upper) (get_or s l.body 0) ≡ true → opcode n s at k filled ≡ Head.bad entry_empty
+          way-empty h = is_body ∙ body-empty n s k filled l.upper l.count l.body r' er a t et b _ refl d h
 
           module _ (z : missing filled (kind_of l.upper) (get_or s l.body 0) ≡ false) (byte : get_or s at 0 < 256) where
             end : l.body + once (kind_of l.upper) + each (kind_of l.upper) * (t * l.count) ≡ at + span_of (get_or s at 0)
             end = rw (et, el.upper, el.count, el.body) (span-end s at byte)
 
-            pub way-cut : length s < at + span_of (get_or s at 0) → Tells s at (Bad opcode_cut) (opcode n s at k filled)
-            way-cut h = rw (is_body ∙ body-cut n s k filled l.upper l.count l.body r er a t et b _ refl d z _ refl (rw end h)) bad
+            pub way-cut : length s < at + span_of (get_or s at 0) → opcode n s at k filled ≡ Head.bad opcode_cut
+            way-cut h = is_body ∙ body-cut n s k filled l.upper l.count l.body r' er a t et b _ refl d z _ refl (rw end h)
 
-            pub way-runs : at + span_of (get_or s at 0) ≤ length s → (next : ℕ) → next ≡ at + span_of (get_or s at 0)
-                → Tells s at (Runs l.upper (t * l.count) next) (opcode n s at k filled)
-            way-runs h next en =
-                let eb = el.body in
-                let hu : l.upper < 15 = known in
-                rw (is_body ∙ body-runs n s k filled l.upper l.count l.body r er a t et b _ refl d z _ refl (rw end h), eb)
-                (runs {m = t * l.count} {next = next} hu (rw (← eb) (en ∙ sym end)))
+            pub way-runs : at + span_of (get_or s at 0) ≤ length s
+                → (r : Run) → r.upper ≡ l.upper → r.first ≡ k → r.blocks ≡ t * l.count → r.next ≡ at + span_of (get_or s at 0)
+                → Found s at k (Ok r) (opcode n s at k filled)
+            way-runs h r eu ek em en =
+                let q : r.next ≡ body_at s at + once (kind_of r.upper) + each (kind_of r.upper) * r.blocks = rw (eu, em, ← el.body) (en ∙ sym end) in
+                rw (is_body ∙ body-runs n s k filled l.upper l.count l.body r' er a t et b _ refl d z _ refl (rw end h), el.body, ← eu, ← em) (runs ek q)
 
--- by whatever number: the bytes end inside it
-pub way-ends : (n : ℕ) (s : List ℕ) (at k : ℕ) (filled : List ℕ) (e : ℕ) → get_or s at 0 < 256 → length s < at + span_of (get_or s at 0)
-    → Hints s at (Bad e) (opcode n s at k filled)
-way-ends n s at k filled e byte short = by (known-head n s at k filled)
-  where
-    by : {x : Head} → Known n s k filled (upper_at s at) (count_at s at) (body_at s at) x → Hints s at (Bad e) x
-    by Heads.Known.bad = ends
-    by (Heads.Known.good fit) = let room = fit.room in absurd (omega (arith, room, span-end s at byte, short))
+-- why one is refused
+pub found-bad : (n : ℕ) (s : List ℕ) (at k : ℕ) (filled : List ℕ) (why : Refusal) → opcode n s at k filled ≡ Head.bad (refusal_number why)
+    → Found s at k (Err why) (opcode n s at k filled)
+found-bad n s at k filled why e = rw e bad

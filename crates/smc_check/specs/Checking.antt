@@ -1,29 +1,13 @@
--- What the check pass goes by. Assumes nothing.
-use Rattle.std.specs.Prelude.{ℕ, ◌+◌, ◌*◌, ◌/◌, ◌%◌, ◌<◌, ◌≤◌, ◌≡◌, List, [], ◌∷◌, Bool, true, eqb, ltb, length, get_or, set}
+-- What the check of one opcode goes by. Assumes nothing.
+use Rattle.std.specs.Prelude.{ℕ, ◌+◌, ◌*◌, ◌<◌, ◌≤◌, ◌≡◌, List, [], ◌∷◌, Bool, true, eqb, ltb, length, get_or, set, Result, Ok, Err}
+use Rattle.spec.specs.declared.Refusal.{Refusal}
+use Rattle.spec.specs.Answers.{refusal_number}
 use Rattle.spec.specs.Basics.{if}
 use Rattle.spec.specs.Chunks as Chunks
-use Rattle.spec.specs.Chunks.{Kind, kind_of, counted, times, reach, once, each, capacity, body_at}
-use Rattle.smc_check.specs.declared.check.Head as Code
-use Rattle.smc_check.specs.declared.check.Head.TheVariants.{Bad, Runs}
-
--- how many bytes an opcode takes, by its first byte: where a byte of its own counts, no bytes come for each block
-unfoldable pub span_of : ℕ → ℕ
-span_of b =
-    let u = kind_of (b / 16) in
-    if (counted (b / 16)) 2 1 + once u + each u * (times u * (1 + b % 16))
-
-abbrev pub Spans : List ℕ → Type 0
-Spans l = (b : ℕ) → b < 256 → get_or l b 0 ≡ span_of b
-
--- tables by the upper half-byte
-abbrev pub ByUpper : (Kind → ℕ) → List ℕ → Type 0
-ByUpper f l = (u : ℕ) → u < 16 → get_or l u 0 ≡ f (kind_of u)
-
-abbrev pub Times : List ℕ → Type 0
-Times = ByUpper times
-
-abbrev pub Reaches : List ℕ → Type 0
-Reaches = ByUpper reach
+use Rattle.spec.specs.Chunks.{kind_of, once, each, capacity, body_at, opcode}
+use Rattle.smc_check.specs.declared.here.Here.{Here}
+use Rattle.smc_check.specs.declared.here.Run.{Run}
+use Rattle.smc_check.specs.Tables.{span_of}
 
 -- all bytes of the opcode at s[at], or not all of them
 pub record Stands (s : List ℕ) (at span : ℕ) : Type 0 where
@@ -51,13 +35,18 @@ grown f u = set f u (get_or f u 0 + 1)
 unfoldable pub naming : ℕ → Bool
 naming u = if (eqb u 9) true (if (eqb u 11) true (eqb u 13))
 
--- the code's head tells the definition's, and the place after the opcode
-pub data Tells (s : List ℕ) (at : ℕ) : Code.Head → Chunks.Head → Type 0 where
-  bad : {e : ℕ} → Tells s at (Bad e) (Chunks.Head.bad e)
-  runs : {u m next : ℕ} → u < 15 → next ≡ body_at s at + once (kind_of u) + each (kind_of u) * m
-      → Tells s at (Runs u m next) (Chunks.Head.runs (kind_of u) m (body_at s at))
+-- the head that the definitions find where the check stands
+abbrev pub head_of : Here → Chunks.Head
+head_of h = opcode h.blocks h.s.now h.at h.k (fills_of h.f.now)
 
--- the same but for the number of a refusal
-pub data Hints (s : List ℕ) (at : ℕ) : Code.Head → Chunks.Head → Type 0 where
-  hinted : {h : Code.Head} {x : Chunks.Head} → Tells s at h x → Hints s at h x
-  ends : {e d : ℕ} → Hints s at (Bad e) (Chunks.Head.bad d)
+abbrev pub Refuses : Here → Refusal → Type 0
+Refuses h why = head_of h ≡ Chunks.Head.bad (refusal_number why)
+
+-- what the code finds there, set out as the definition's head, with the place after the opcode
+pub data Found (s : List ℕ) (at k : ℕ) : Result Run Refusal → Chunks.Head → Type 0 where
+  bad : {why : Refusal} → Found s at k (Err why) (Chunks.Head.bad (refusal_number why))
+  runs : {r : Run} → r.first ≡ k → r.next ≡ body_at s at + once (kind_of r.upper) + each (kind_of r.upper) * r.blocks
+      → Found s at k (Ok r) (Chunks.Head.runs (kind_of r.upper) r.blocks (body_at s at))
+
+abbrev pub Tells : Here → Result Run Refusal → Type 0
+Tells h r = Found h.s.now h.at h.k r (head_of h)

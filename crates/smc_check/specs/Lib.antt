@@ -1,4 +1,6 @@
 -- What the check pass goes by.
 pub mod Heads
+pub mod Tables
 pub mod Checking
+pub mod Going
 pub mod Tallying

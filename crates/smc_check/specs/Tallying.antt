@@ -1,12 +1,16 @@
 -- What the counting beside the check pass goes by: what a loop that only reads heads of opcodes and the lent map can know of the count's
 -- change. No part of what a chunk means. Assumes nothing.
-use Rattle.std.specs.Prelude.{ℕ, zero, suc, ◌+◌, ◌-◌, ◌*◌, ◌/◌, ◌<◌, ◌≤◌, ◌≡◌, List, ltb, eqb, length, get_or}
+use Rattle.std.specs.Prelude.{ℕ, zero, suc, ◌+◌, ◌-◌, ◌*◌, ◌<◌, ◌≤◌, ◌≡◌, List, Bool, true, false, eqb, length, get_or}
 use Rattle.spec.specs.declared.Answer.{Answer}
 use Rattle.spec.specs.Basics.{if}
 use Rattle.spec.specs.Pictures.{Origin, held}
 use Rattle.spec.specs.Maps.{settled, entry, remap, unsettled, newly_unsettled, newly_settled}
 use Rattle.spec.specs.Chunks.{kind_of, State, extend, Outcome, refused, accepted}
 use Rattle.smc_check.specs.declared.count.Running.{Running}
+use Rattle.smc_check.specs.declared.count.Block.{Block}
+use Rattle.smc_check.specs.declared.count.Block.TheVariants.{Settled, Skipped, Unsettled}
+use Rattle.smc_check.specs.Tables.{touches}
+use Rattle.smc_check.specs.Going.{Made, Advances}
 
 -- 1 for an entry that is not the mark; of an origin, over the lent map
 abbrev pub is_open : ℕ → ℕ
@@ -27,15 +31,21 @@ last_of made = get_or made (length made - 1) (held 0)
 abbrev pub next_to_last : List Origin → Origin
 next_to_last made = get_or made (length made - 2) (held 0)
 
--- what is remembered of a block: 0 settled by now, 1 skipped, so as it was lent, 2 open by now
-unfoldable pub opened : List ℕ → ℕ → ℕ → ℕ
-opened m c j = if (eqb c 1) (is_open (get_or m j 0)) (c / 2)
+-- a test as a number to add up
+abbrev pub bit : Bool → ℕ
+bit true = 1
+bit false = 0
+
+-- by what is remembered of block j, how open it is by now
+abbrev pub opened : List ℕ → Block → ℕ → ℕ
+opened m Settled j = 0
+opened m Skipped j = is_open (get_or m j 0)
+opened m Unsettled j = 1
 
 -- Where the loop stands, with these blocks made. `now` is the number of blocks, with every entry found open taken away and every block that a
 -- copy has opened added; the entries from lo to hi are still to be counted, and owed more; one and two are remembered of the last blocks
-pub record Standing (m : List ℕ) (made : List Origin) (now one two lo hi owed : ℕ) : Type 0 where
+pub record Standing (m : List ℕ) (made : List Origin) (now : ℕ) (one two : Block) (lo hi owed : ℕ) : Type 0 where
   pub balance : now + open_in m 0 (length made) ≡ length m + unsettled (remap made m) + open_in m lo (hi - lo) + owed
-  pub few : (one ≤ 2) × (two ≤ 2)
   pub begin : lo ≤ hi
   pub past : hi ≤ length made
   pub first : 1 ≤ length made → opened m one (length made - 1) ≡ open_of m (last_of made)
@@ -45,10 +55,8 @@ abbrev pub StandsAt : List ℕ → List Origin → Running → ℕ → Type 0
 StandsAt m made t owed = Standing m made t.now t.one t.two t.lo t.hi owed
 
 -- there are blocks made with which the numbers tally
-pub record Tallied (m : List ℕ) (k : ℕ) (t : Running) : Type 0 where
-  pub made : List Origin
-  pub size : length made ≡ k
-  pub tally : StandsAt m made t 0
+abbrev pub Tallied : List ℕ → ℕ → Running → Type 0
+Tallied m k t = Made (λ made. StandsAt m made t 0) k
 
 -- the same while the entries of w blocks from k on are owed
 pub record Owing (m : List ℕ) (k w : ℕ) (t : Running) : Type 0 where
@@ -58,39 +66,44 @@ pub record Owing (m : List ℕ) (k w : ℕ) (t : Running) : Type 0 where
   pub most : length made ≤ length m
   pub tally : StandsAt m made t (open_in m k w)
 
--- by the upper half-byte: 0 for skips, 1 for what touches the blocks that it makes
-unfoldable pub touch_of : ℕ → ℕ
-touch_of u = if (ltb u 2) 0 1
-
-abbrev pub Touches : List ℕ → Type 0
-Touches l = (u : ℕ) → u < 16 → get_or l u 0 ≡ touch_of u
+-- of w blocks, how many an opcode of upper half-byte u touches
+unfoldable pub touched : ℕ → ℕ → ℕ
+touched u w = bit (touches u) * w
 
 -- What an opcode of upper half-byte u, for w blocks from block k on, makes of the numbers, whatever was made: they tally again, when the
 -- entries that it touches are owed; then with those taken away; and both
 abbrev pub Notes : List ℕ → ℕ → ℕ → ℕ → Running → Running → Type 0
-Notes m u k w t r =
-    (hs s : List ℕ) (at : ℕ) (st : State) → length st.made ≡ k → StandsAt m st.made t 0
-    → StandsAt m (extend (kind_of u) hs s at w st) r (open_in m k (touch_of u * w))
+Notes m u k w t r = Advances (λ made. StandsAt m made t 0) (λ made. StandsAt m made r (open_in m k (touched u w))) u k w
 
 abbrev pub Takes : List ℕ → ℕ → ℕ → Running → Running → Type 0
 Takes m k w t r =
     (made : List Origin) → k + w ≤ length made → length made ≤ length m → StandsAt m made t (open_in m k w) → StandsAt m made r 0
 
 abbrev pub Counts : List ℕ → ℕ → ℕ → ℕ → Running → Running → Type 0
-Counts m u k w t r =
-    (hs s : List ℕ) (at : ℕ) (st : State) → length st.made ≡ k → StandsAt m st.made t 0
-    → StandsAt m (extend (kind_of u) hs s at w st) r 0
+Counts m u k w t r = Advances (λ made. StandsAt m made t 0) (λ made. StandsAt m made r 0) u k w
 
 -- the choices of the loop
-unfoldable pub second_of : ℕ → ℕ → ℕ → ℕ
-second_of one code w = if (eqb w 1) one code
+abbrev pub left : Bool → Block
+left true = Settled
+left false = Skipped
 
-unfoldable pub taken_of : ℕ → ℕ → ℕ
-taken_of touched first = if (eqb touched 1) first 0
+abbrev pub copied : Bool → Block
+copied true = Unsettled
+copied false = Settled
+
+abbrev pub both : Block → Block → Bool
+both Settled Settled = true
+both _ _ = false
+
+abbrev pub is_settled : Running → Bool
+is_settled t = both t.one t.two
+
+unfoldable pub second_of : Block → Block → ℕ → Block
+second_of one code w = if (eqb w 1) one code
 
 -- where it starts, and what it has counted in the end
 abbrev pub begun : ℕ → Running
-begun n = record { now = n; one = 0; two = 0; lo = 0; hi = 0 }
+begun n = record { now = n; one = Settled; two = Settled; lo = 0; hi = 0 }
 
 abbrev pub summed : List ℕ → Running → ℕ
 summed m t = t.now - open_in m t.lo (t.hi - t.lo)

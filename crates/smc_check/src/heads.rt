@@ -11,21 +11,11 @@ pub struct Lead {
     pub body: usize,
 }
 
-// A byte as a number to compute with.
-pub fn wide(x: u8) -> usize
-    ensures { (result ≡ x) × (result < 256) }
-{
-    x as usize
-}
-
 // How many bytes of its own the count has: 1 for the opcodes 1, 3, 5 and 7.
 pub fn count_bytes(upper: usize) -> usize
     ensures { result ≡ if (counted upper) 1 0 }
 {
-    if upper < 8 {
-        return upper % 2;
-    }
-    0
+    if upper < 8 { upper % 2 } else { 0 }
 }
 
 // The count, by the opcode and the byte after it. A choice of two numbers that are at hand, so that nothing is guessed at run time.
@@ -34,9 +24,10 @@ fn count_of(bytes: usize, opcode: usize, next: usize) -> usize
     ensures { result ≡ if (eqb bytes 0) (1 + opcode % 16) (1 + next) }
 {
     if bytes == 0 {
-        return 1 + opcode % 16;
+        1 + opcode % 16
+    } else {
+        1 + next
     }
-    1 + next
 }
 
 // The lead of the opcode at s[at].
@@ -45,10 +36,10 @@ pub fn lead_at(s: &[u8], at: usize) -> Lead
     requires at_in_bounds_2 { body_at s.now at ≤ length s.now }
     ensures { Leads s.now at result }
 {
-    let opcode = wide(s[at]);
+    let opcode = usize::from(s[at]);
     let upper = opcode / 16;
     let bytes = count_bytes(upper);
-    let next = wide(s[at + bytes]);
+    let next = usize::from(s[at + bytes]);
     Lead {
         upper,
         count: count_of(bytes, opcode, next),

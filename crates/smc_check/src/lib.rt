@@ -6,9 +6,10 @@
 mod check;
 mod count;
 mod heads;
-mod spans;
+mod here;
+mod tables;
 
 // For what is lent no map: the answer to a chunk, by the number of blocks and the bytes alone.
 pub use check::check as check_chunk;
 pub use count::{Changed, check as check_and_count};
-pub use heads::{Lead, lead_at, wide};
+pub use heads::{Lead, lead_at};

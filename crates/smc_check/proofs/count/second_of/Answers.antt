@@ -7,6 +7,6 @@ pub returns-then-m-eq1 : goal.returns-then-m-eq1
 unfolding second_of if
 returns-then-m-eq1 c = search cases
 
-pub returns : goal.returns
+pub returns-else-m-eq1 : goal.returns-else-m-eq1
 unfolding second_of if
-returns c = search cases
+returns-else-m-eq1 c = search cases

@@ -6,6 +6,6 @@ pub returns-then-bytes-eq0 : goal.returns-then-bytes-eq0
 unfolding if
 returns-then-bytes-eq0 c = search cases
 
-pub returns : goal.returns
+pub returns-else-bytes-eq0 : goal.returns-else-bytes-eq0
 unfolding if
-returns c = search cases
+returns-else-bytes-eq0 c = search cases

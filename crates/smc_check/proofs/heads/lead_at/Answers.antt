@@ -5,26 +5,25 @@ use Rattle.smc_check.proofs.heads.lead_at.Goals as goal
 
 pub overflow_add-at : goal.overflow_add-at
 overflow_add-at c = let a = c.args in
-    let e = body-by-bytes a.s.now a.at c.wide-opcode.result c.wide-opcode.ensures.0 _ c.count_bytes-bytes.ensures in
+    let e = body-by-bytes a.s.now a.at c.from-opcode.result c.from-opcode.ensures _ c.count_bytes-bytes.ensures in
     omega arith
 
 pub bounds-s-at-2 : goal.bounds-s-at-2
 bounds-s-at-2 c = let a = c.args in
-    let e = body-by-bytes a.s.now a.at c.wide-opcode.result c.wide-opcode.ensures.0 _ c.count_bytes-bytes.ensures in
+    let e = body-by-bytes a.s.now a.at c.from-opcode.result c.from-opcode.ensures _ c.count_bytes-bytes.ensures in
     omega arith
 
 pub overflow_add-result-2 : goal.overflow_add-result-2
 overflow_add-result-2 c = let a = c.args in
-    let w = c.wide-opcode in
-    let e = body-by-bytes a.s.now a.at w.result w.ensures.0 _ c.count_bytes-bytes.ensures in
+    let e = body-by-bytes a.s.now a.at c.from-opcode.result c.from-opcode.ensures _ c.count_bytes-bytes.ensures in
     omega arith
 
 pub returns : goal.returns
 returns c = let a = c.args in
-    let w = c.wide-opcode in
+    let o = c.from-opcode in
     let b = c.count_bytes-bytes in
     record {
-      upper = rw w.ensures.0;
-      count = c.count_of.ensures ∙ count-by-bytes a.s.now a.at w.result w.ensures.0 b.result b.ensures _ c.wide-next.ensures.0;
-      body = body-by-bytes a.s.now a.at w.result w.ensures.0 b.result b.ensures;
+      upper = rw o.ensures;
+      count = c.count_of.ensures ∙ count-by-bytes a.s.now a.at o.result o.ensures b.result b.ensures _ c.from-next.ensures;
+      body = body-by-bytes a.s.now a.at o.result o.ensures b.result b.ensures;
     }
