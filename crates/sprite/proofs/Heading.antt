@@ -21,7 +21,7 @@ module _ (s : List ℕ) where
       let before = leb head_bytes (length s) && (leb first_version (version s) && leb (version s) last_version) in
       leb-true _ _ ((and-eq-true_iff before (leb (head_bytes + 4 * frame_count s) (length s))).0 e).1
 
-  head-whole : (at : ℕ) → is_frame s at ≡ true → at + frame_bytes ≤ length s
+  pub head-whole : (at : ℕ) → is_frame s at ≡ true → at + frame_bytes ≤ length s
   unfolding is_frame
   head-whole at e = leb-true _ _ ((and-eq-true_iff (leb (at + frame_bytes) (length s)) _).0 e).0
 
