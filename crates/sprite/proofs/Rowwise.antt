@@ -28,9 +28,6 @@ module _ {z : Size} {s : List ℕ} {width first end left line : ℕ} {pic₀ : L
   row-unpainted order = record { read = row-begins order; is = strip-clear z left line 0 pic₀ exact }
 
   module _ {x next : ℕ} {pic : List ℕ} {made : List Shade} (k : RowPainted z s width first end left line pic₀ x next pic made) where
-    pub row-length : length pic ≡ pixels z
-    row-length = ap length k.is ∙ length-overlay z _ pic₀
-
     joined : (sh : List Shade) → overlay z (strip (left + x) line sh) pic ≡ overlay z (strip left line (made ++ sh)) pic₀
     joined sh =
         let e : left + x ≡ left + length made = ap (λ (n : ℕ). left + n) (sym k.read.size) in
@@ -66,9 +63,6 @@ module _ {z : Size} {s : List ℕ} {height width first left top : ℕ} {pic₀ :
   frame-unpainted start = record { read = frame-begins start; is = sheet-none z left top pic₀ exact }
 
   module _ {y at : ℕ} {pic : List ℕ} {made : List (List Shade)} (k : FramePainted z s height width first left top pic₀ y at pic made) where
-    pub frame-length : length pic ≡ pixels z
-    frame-length = ap length k.is ∙ length-overlay z _ pic₀
-
     pub frame-painted : height ≤ y → pic ≡ overlay z (sheet left top (rows s height width first).made) pic₀
     frame-painted l =
         k.is ∙ sym (ap (λ (r : Ended (List Shade)). overlay z (sheet left top r.made) pic₀) (frame-ends k.read l))

@@ -5,8 +5,10 @@ use mathlib.Core.Logic.{◌≢◌}
 use mathlib.Core.List.{List, ◌∷◌, map}
 use native.Mathlib.Nat.{min-le_left, pos_of_ne-zero}
 use native.Mathlib.Omega.{arith}
-use lib.ListN.{length, replicate, length-map, length-replicate, get_or-replicate}
-use lib.Seq.{sets, ext_get_or, take-length}
+use lib.ListN.{length, replicate, length-map, length-replicate}
+use lib.LanesLaws.{map-replicate}
+use lib.Seq.{sets, take-length}
+use Rattle.std.proofs.lemmas.List.{take-replicate, drop-replicate}
 use borrow.Rule.Slice.PartMut.{put_mid}
 use Rattle.std.proofs.lemmas.List.Edits.{sets-eq}
 use Rattle.std.proofs.lemmas.Slice.{put_mid-paste}
@@ -23,15 +25,7 @@ use Rattle.sprite.proofs.Clipping.{strip-unseen, strip-stored, strip-room}
 
 -- a part of equal numbers
 part-replicate : (n c a w : ℕ) → a + w ≤ n → part (replicate n c) a w ≡ replicate w c
-part-replicate n c a w h =
-    let l : length (part (replicate n c) a w) ≡ w = length_part (replicate n c) a w (rw (length-replicate n c) h) in
-    ext_get_or 0 _ _ (l ∙ sym (length-replicate w c)) (λ i b.
-    let g : i < w = rw l at b in
-    part_at (replicate n c) a w i 0 g ∙ get_or-replicate n (a + i) c 0 (omega arith) ∙ sym (get_or-replicate w i c 0 g))
-
-map-replicate : {A B : Type 0} (f : A → B) (n : ℕ) (a : A) → map f (replicate n a) ≡ replicate n (f a)
-map-replicate f zero a = refl
-map-replicate f (suc n) a = ap (λ l. f a ∷ l) (map-replicate f n a)
+part-replicate n c a w h = rw (drop-replicate a n c, take-replicate w (n - a) c (omega arith))
 
 -- a part lent, and filled with other bytes
 stored-mid : (pic vs : List ℕ) (start n : ℕ) → length vs ≡ n → start + length vs ≤ length pic → put_mid start n pic vs ≡ sets pic start vs
@@ -48,9 +42,6 @@ module _ {z : Size} {count left y hd col sn : ℕ} (pic : List ℕ) (low : y < z
 
   pub unseen-kept : (sh : List Shade) → count ≡ length sh → sn ≡ 0 → pic ≡ painted sh
   unseen-kept sh l q = strip-unseen z left y sh pic exact (ap (seen z.width left) (sym l) ∙ sym e.seen ∙ q)
-
-  pub clear_kept : pic ≡ painted (replicate count background)
-  clear_kept = strip-clear z left (origin + y) count pic exact
 
   -- where some are seen, they are among those that it counts
   module _ (h : sn ≢ 0) where

@@ -1,4 +1,5 @@
-use mathlib.Core.Path.{refl, ap, ◌∙◌}
+use mathlib.Core.Path.{◌≡◌, refl, ap, ◌∙◌}
+use Rattle.std.proofs.Common.{rules}
 use Rattle.spec.specs.Answers.{ok, refusal_number}
 use Rattle.spec.proofs.Refusals.{refused-not-ok}
 use Rattle.sprite.specs.Frames.{frame}
@@ -33,12 +34,14 @@ returns-in-Err-check-clause-picture_after c = let a = c.args in
 
 pub returns-in-Ok-clause-value : goal.returns-in-Ok-clause-value
 returns-in-Ok-clause-value c = let a = c.args in
-    let e = frame-shown a.size a.picture.now a.file.now a.frame a.left a.top ok c.in_default.ensures refl ok c.in-Ok.ensures.number refl in
+    let n : ok ≡ (frame a.file.now a.frame).number = search rules in
+    let e = frame-shown a.size a.picture.now a.file.now a.frame a.left a.top ok c.in_default.ensures refl ok n refl in
     rw e c.accepted.ensures
 
 pub returns-in-Ok-clause-picture_after : goal.returns-in-Ok-clause-picture_after
 returns-in-Ok-clause-picture_after c = let a = c.args in
-    let e = frame-shown a.size a.picture.now a.file.now a.frame a.left a.top ok c.in_default.ensures refl ok c.in-Ok.ensures.number refl in
+    let n : ok ≡ (frame a.file.now a.frame).number = search rules in
+    let e = frame-shown a.size a.picture.now a.file.now a.frame a.left a.top ok c.in_default.ensures refl ok n refl in
     let p = c.new.ensures in
     let left = p.left_value ∙ ap from_least (narrow a.left c.ranges.left) in
     let top = p.top_value ∙ ap from_least (narrow a.top c.ranges.top) in
