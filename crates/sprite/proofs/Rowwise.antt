@@ -14,7 +14,6 @@ use Rattle.sprite.specs.Frames.{Segment, RowHead, Shade, Ended, ended, segment_a
 use Rattle.sprite.specs.Symbols.{overlay}
 use Rattle.sprite.specs.Strips.{strip, sheet}
 use Rattle.sprite.proofs.Splits.{split}
-use Rattle.sprite.proofs.Overlays.{length-overlay}
 use Rattle.sprite.proofs.Laying.{strip-clear, strip-more, sheet-none, sheet-row, sheet-blank}
 use Rattle.sprite.proofs.Progress.{InRow, row-begins, row-goes-on, row-ends-bad, row_ends, InFrame, frame-begins, frame-ends, frame-bad-row, frame-blank, frame-data, frame-bad-segment}
 

@@ -1,8 +1,8 @@
 -- What painting a segment makes of a picture. Assumes nothing.
-use Prim.Native.Nat.{ℕ, zero, suc, ◌+◌, ◌-◌, ◌*◌, ◌<◌, ◌≤◌}
+use Prim.Native.Nat.{ℕ, ◌+◌, ◌-◌, ◌*◌, ◌<◌, ◌≤◌}
 use mathlib.Core.Path.{◌≡◌, refl, sym, ap, ◌∙◌}
 use mathlib.Core.Logic.{◌≢◌}
-use mathlib.Core.List.{List, ◌∷◌, map}
+use mathlib.Core.List.{List, map}
 use native.Mathlib.Nat.{min-le_left, pos_of_ne-zero}
 use native.Mathlib.Omega.{arith}
 use lib.ListN.{length, replicate, length-map, length-replicate}
@@ -12,15 +12,13 @@ use Rattle.std.proofs.lemmas.List.{take-replicate, drop-replicate}
 use borrow.Rule.Slice.PartMut.{put_mid}
 use Rattle.std.proofs.lemmas.List.Edits.{sets-eq}
 use Rattle.std.proofs.lemmas.Slice.{put_mid-paste}
-use borrow.Author.Tests.{ne_eqb}
 use Rattle.spec.specs.declared.Size.{Size}
 use Rattle.spec.specs.Basics.{part}
 use Rattle.spec.specs.Sizes.{pixels}
-use Rattle.spec.proofs.Parts.{part_at, length_part, sets_more}
-use Rattle.sprite.specs.Frames.{Shade, background, colour}
+use Rattle.spec.proofs.Parts.{length_part}
+use Rattle.sprite.specs.Frames.{Shade, colour}
 use Rattle.sprite.specs.Symbols.{overlay}
 use Rattle.sprite.specs.Strips.{origin, strip, hidden, column, seen, Clipped}
-use Rattle.sprite.proofs.Laying.{strip-clear}
 use Rattle.sprite.proofs.Clipping.{strip-unseen, strip-stored, strip-room}
 
 -- a part of equal numbers

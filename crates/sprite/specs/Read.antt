@@ -1,9 +1,8 @@
 -- What the code reads of a frame, set out as the definitions' is, and 001's codes as the code has them. Assumes nothing.
-use Rattle.std.specs.Prelude.{ℕ, ◌≡◌, List, [], ◌∷◌, map, length, replicate, Result, Ok, Err}
+use Rattle.std.specs.Prelude.{ℕ, List, [], ◌∷◌, map, length, replicate, Result, Ok, Err}
 use Rattle.spec.specs.declared.Refusal.{Refusal}
 use Rattle.spec.specs.Answers.{ok, refusal_number}
 use Rattle.sprite.specs.declared.heads.Segment.{Segment}
-use Rattle.sprite.specs.declared.heads.Segment.TheVariants as Segment
 use Rattle.sprite.specs.declared.heads.SegmentCode.{SegmentCode}
 use Rattle.sprite.specs.declared.heads.SegmentCode.TheVariants as Of
 use Rattle.sprite.specs.declared.heads.RowHead.{RowHead}

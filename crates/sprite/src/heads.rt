@@ -145,9 +145,10 @@ pub fn row_at(frame: &Frame, done: usize, at: usize) -> Result<RowHead, Refusal>
     if s.len() - at < 2 {
         return Err(Refusal::BadRow);
     }
+    let room = usize::from(frame.height) - done;
     let count = usize::from(s[at + 1]);
     match RowCode::of(s[at]) {
-        Some(RowCode::Blank) if count <= usize::from(frame.height) - done => Ok(RowHead::Blank(count)),
+        Some(RowCode::Blank) if count <= room => Ok(RowHead::Blank(count)),
         Some(RowCode::Data) if 4 <= count && count <= s.len() - at => Ok(RowHead::Data(at + count)),
         _ => Err(Refusal::BadRow),
     }

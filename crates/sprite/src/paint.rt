@@ -34,7 +34,9 @@ fn clip(width: usize, left: usize, count: usize) -> Visible
     Visible {
         hidden,
         column,
-        seen: count.saturating_sub(hidden).min(width.saturating_sub(column)),
+        seen: count
+            .saturating_sub(hidden)
+            .min(width.saturating_sub(column)),
     }
 }
 

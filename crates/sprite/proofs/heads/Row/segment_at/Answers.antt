@@ -1,12 +1,11 @@
-use Prim.Native.Nat.{ℕ, ◌+◌, ◌-◌, ◌≤◌, ◌<◌}
-use mathlib.Core.Path.{◌≡◌, sym, ap, ◌∙◌}
-use mathlib.Core.Logic.{◌≢◌}
+use Prim.Native.Nat.{◌+◌, ◌-◌, ◌≤◌, ◌<◌}
+use mathlib.Core.Path.{◌≡◌, sym, ap}
 use native.Mathlib.Omega.{arith}
 use lib.ListN.{length-map, length-replicate}
-use Rattle.spec.specs.Basics.{if, part}
+use Rattle.spec.specs.Basics.{if}
 use Rattle.spec.proofs.Cases.{cases}
 use Rattle.spec.proofs.Parts.{length_part}
-use Rattle.sprite.specs.Frames.{segment_at, segment_bytes, segment_says, shades, code_at, count_at, colour, background}
+use Rattle.sprite.specs.Frames.{segment_at, segment_bytes, shades, code_at, count_at}
 use Rattle.sprite.specs.Read.{segment_code}
 use Rattle.sprite.proofs.Segments.{bytes_run, bytes-copy, some-bytes, no-bytes, pixels-at}
 use Rattle.sprite.proofs.heads.Row.segment_at.Goals as goal
