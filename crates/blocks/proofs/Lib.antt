@@ -1,1 +1,2 @@
 pub mod Rowwise
+pub mod Gridwise

@@ -16,9 +16,12 @@ row s p = get_or s p 0 ∷ get_or s (p + 1) 0 ∷ get_or s (p + 2) 0 ∷ get_or 
 unfoldable pub rows : List ℕ → ℕ → ℕ → List ℕ
 rows s p w = row s p ++ row s (p + w) ++ row s (p + 2 * w) ++ row s (p + 3 * w)
 
--- a picture of c by r blocks, within the limits
+-- the pixels of c by r blocks; and a picture of so many, within the limits
+abbrev pub area : ℕ → ℕ → ℕ
+area c r = 4 * c * (4 * r)
+
 pub record Canvas (c r : ℕ) (pic : List ℕ) : Type 0 where
   pub wide : 0 < c
   pub narrow : c ≤ max_columns
   pub low : r ≤ max_lines
-  pub exact : length pic ≡ 4 * c * (4 * r)
+  pub exact : length pic ≡ area c r
