@@ -1,5 +1,5 @@
 -- What the code reads of a frame, set out as the definitions' is, and 001's codes as the code has them. Assumes nothing.
-use Rattle.std.specs.Prelude.{ℕ, List, [], ◌∷◌, map, length, replicate, Result, Ok, Err}
+use Rattle.std.specs.Prelude.{ℕ, ◌≡◌, List, [], ◌∷◌, map, length, replicate, Result, Ok, Err}
 use Rattle.spec.specs.declared.Refusal.{Refusal}
 use Rattle.spec.specs.Answers.{ok, refusal_number}
 use Rattle.sprite.specs.declared.heads.Segment.{Segment}
@@ -20,6 +20,11 @@ segment_code Of.Copy = copy_code
 abbrev pub row_code : RowCode → ℕ
 row_code At.Data = data_code
 row_code At.Blank = blank_code
+
+-- what a byte is read as: the code that has its number, or this refusal where none has
+abbrev pub Decodes : {C : Type 0} → (C → ℕ) → ℕ → ℕ → Result C Refusal → Type 0
+Decodes number refusal byte (Ok x) = number x ≡ byte
+Decodes {C} number refusal byte (Err why) = (refusal_number why ≡ refusal) × ((x : C) → ¬ (number x ≡ byte))
 
 -- what a segment shows
 abbrev pub shown : Segment → List Shade

@@ -1,9 +1,8 @@
 // The heads of rows and of segments, which both passes read. Here s is the file, and s[at] the head's first byte.
-ghost use Rattle.std.specs.Prelude.{◌≡◌, ◌-◌, ◌≤◌, length, IfOk, MatchOption};
-ghost use Rattle.sprite.specs.declared.heads.SegmentCode.{SegmentCode};
-ghost use Rattle.sprite.specs.declared.heads.RowCode.{RowCode};
+ghost use Rattle.std.specs.Prelude.{◌≡◌, ◌-◌, ◌≤◌, length, IfOk};
+ghost use Rattle.spec.specs.Answers.{bad_row, bad_segment};
 ghost use Rattle.sprite.specs.Frames.{segment_bytes, segment_at, segment_says, shades, row_at, row_head_says};
-ghost use Rattle.sprite.specs.Read.{segment_code, shown, segment_result, row_code, row_head_result};
+ghost use Rattle.sprite.specs.Read.{Decodes, segment_code, shown, segment_result, row_code, row_head_result};
 
 use crate::files::Frame;
 use spec::Refusal;
@@ -16,18 +15,22 @@ enum SegmentCode {
     Copy,
 }
 
-impl SegmentCode {
-    fn of(code: u8) -> Option<Self>
-        ensures { MatchOption result ((x : SegmentCode) → ¬ (segment_code x ≡ code)) (λ x. segment_code x ≡ code) }
-    {
+impl TryFrom<u8> for SegmentCode {
+    type Error = Refusal;
+
+    ghost try_from_gives = { Decodes segment_code bad_segment };
+
+    fn try_from(code: u8) -> Result<SegmentCode, Refusal> {
         match code {
-            1 => Some(SegmentCode::Clear),
-            2 => Some(SegmentCode::Run),
-            3 => Some(SegmentCode::Copy),
-            _ => None,
+            1 => Ok(SegmentCode::Clear),
+            2 => Ok(SegmentCode::Run),
+            3 => Ok(SegmentCode::Copy),
+            _ => Err(Refusal::BadSegment),
         }
     }
+}
 
+impl SegmentCode {
     // The bytes of a segment that counts so many pixels, code and count included.
     fn bytes(self, count: u8) -> usize
         ensures { result ≡ segment_bytes (segment_code self) count }
@@ -87,9 +90,7 @@ impl<'a> Row<'a> {
         }
         let count = s[at + 1];
         let pixels = usize::from(count);
-        let Some(code) = SegmentCode::of(s[at]) else {
-            return Err(Refusal::BadSegment);
-        };
+        let code = SegmentCode::try_from(s[at])?;
         let size = code.bytes(count);
         if self.end - at < size {
             return Err(Refusal::BadSegment);
@@ -116,14 +117,16 @@ enum RowCode {
     Blank,
 }
 
-impl RowCode {
-    fn of(code: u8) -> Option<Self>
-        ensures { MatchOption result ((x : RowCode) → ¬ (row_code x ≡ code)) (λ x. row_code x ≡ code) }
-    {
+impl TryFrom<u8> for RowCode {
+    type Error = Refusal;
+
+    ghost try_from_gives = { Decodes row_code bad_row };
+
+    fn try_from(code: u8) -> Result<RowCode, Refusal> {
         match code {
-            4 => Some(RowCode::Data),
-            9 => Some(RowCode::Blank),
-            _ => None,
+            4 => Ok(RowCode::Data),
+            9 => Ok(RowCode::Blank),
+            _ => Err(Refusal::BadRow),
         }
     }
 }
@@ -147,9 +150,9 @@ pub fn row_at(frame: &Frame, done: usize, at: usize) -> Result<RowHead, Refusal>
     }
     let room = usize::from(frame.height) - done;
     let count = usize::from(s[at + 1]);
-    match RowCode::of(s[at]) {
-        Some(RowCode::Blank) if count <= room => Ok(RowHead::Blank(count)),
-        Some(RowCode::Data) if 4 <= count && count <= s.len() - at => Ok(RowHead::Data(at + count)),
+    match RowCode::try_from(s[at])? {
+        RowCode::Blank if count <= room => Ok(RowHead::Blank(count)),
+        RowCode::Data if 4 <= count && count <= s.len() - at => Ok(RowHead::Data(at + count)),
         _ => Err(Refusal::BadRow),
     }
 }

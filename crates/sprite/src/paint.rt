@@ -40,7 +40,8 @@ fn clip(width: usize, left: usize, count: usize) -> Visible
     }
 }
 
-// Where a frame is painted: on a picture of this size, its upper left pixel at this column and row.
+// Where a frame is painted: on a picture of this size, its upper left pixel at this column and row. That the lent picture has the size stands
+// in each contract: a struct with the `&mut` in it can have no ghost field.
 #[derive(Clone, Copy)]
 pub struct Position {
     size: Size,
