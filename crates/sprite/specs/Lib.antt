@@ -2,6 +2,7 @@
 pub mod Files
 pub mod Frames
 pub mod Read
+pub mod Held
 pub mod Symbols
 pub mod Strips
 pub mod Examples

@@ -1,7 +1,8 @@
 // The check pass: it decides the answer for a frame, and writes nothing. Here s is the file.
 ghost use Rattle.std.specs.Prelude.{◌≡◌, ◌≤◌, length, IfOk};
 ghost use Rattle.spec.specs.Answers.{number_of};
-ghost use Rattle.sprite.specs.Frames.{row, marker, rows, frame};
+ghost use Rattle.sprite.specs.Frames.{marker, frame};
+ghost use Rattle.sprite.specs.Held.{row_of, rows_of};
 
 use crate::files::Frame;
 use crate::heads::{Row, RowHead};
@@ -13,7 +14,7 @@ const END_MARKER: [u8; 2] = [5, 0];
 
 // 19 for the segments of a row with data.
 fn check_row(r: &Row) -> Result<(), Refusal>
-    ensures { number_of result ≡ (row r.now.s.now r.now.width r.now.first r.now.end).number }
+    ensures { number_of result ≡ (row_of r.now).number }
 {
     let mut x = 0;
     let mut next = r.first;
@@ -38,7 +39,7 @@ fn check_marker(s: &[u8], at: usize) -> Result<(), Refusal>
 
 // 18, 19 or 20 for the rows of a frame.
 fn check_rows(f: &Frame) -> Result<(), Refusal>
-    ensures { number_of result ≡ (rows f.now.s.now f.now.height f.now.width f.now.first).number }
+    ensures { number_of result ≡ (rows_of f.now).number }
 {
     let height = usize::from(f.height);
     let mut y = 0;
@@ -68,7 +69,7 @@ fn check_rows(f: &Frame) -> Result<(), Refusal>
 // Frame k of a file, where it is accepted; or its refusal.
 pub fn check(s: &[u8], k: usize) -> Result<Frame<'_>, Refusal>
     ensures number { number_of result ≡ (frame s.now k).number }
-    ensures accepted { IfOk result (λ f. rows f.s.now f.height f.width f.first ≡ frame s.now k) }
+    ensures accepted { IfOk result (λ f. rows_of f ≡ frame s.now k) }
 {
     let f = files::frame_at(s, k)?;
     check_rows(&f)?;

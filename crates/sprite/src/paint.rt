@@ -3,7 +3,7 @@
 ghost use Rattle.std.specs.Prelude.{◌≡◌, ◌+◌, ◌^◌, ◌<◌, length};
 ghost use Rattle.spec.specs.Answers.{ok};
 ghost use Rattle.spec.specs.Sizes.{pixels};
-ghost use Rattle.sprite.specs.Frames.{row, rows};
+ghost use Rattle.sprite.specs.Held.{row_of, rows_of};
 ghost use Rattle.sprite.specs.Read.{shown};
 ghost use Rattle.sprite.specs.Symbols.{placed, overlay};
 ghost use Rattle.sprite.specs.Strips.{origin, from_least, strip, sheet, Clipped};
@@ -90,7 +90,7 @@ impl Position {
     fn paint_row(self, r: &Row, y: usize, picture: &mut [u8])
         requires y_lt_height { y < self.size.height }
         requires exact { length picture.old ≡ pixels self.size }
-        ensures { picture.new ≡ overlay self.size (strip self.left (origin + y) (row r.now.s.now r.now.width r.now.first r.now.end).made) picture.old }
+        ensures { picture.new ≡ overlay self.size (strip self.left (origin + y) (row_of r.now).made) picture.old }
     {
         let mut x = 0;
         let mut next = r.first;
@@ -107,7 +107,7 @@ impl Position {
     // The same in row `line`, which need not be the picture's.
     fn paint_line(self, r: &Row, line: usize, picture: &mut [u8])
         requires { length picture.old ≡ pixels self.size }
-        ensures { picture.new ≡ overlay self.size (strip self.left line (row r.now.s.now r.now.width r.now.first r.now.end).made) picture.old }
+        ensures { picture.new ≡ overlay self.size (strip self.left line (row_of r.now).made) picture.old }
     {
         let Some(y) = line.checked_sub(ORIGIN) else {
             return;
@@ -119,9 +119,9 @@ impl Position {
 
     // The rows of an accepted frame.
     pub fn paint(self, f: &Frame, picture: &mut [u8])
-        requires accepted { (rows f.now.s.now f.now.height f.now.width f.now.first).number ≡ ok }
+        requires accepted { (rows_of f.now).number ≡ ok }
         requires exact { length picture.old ≡ pixels self.size }
-        ensures { picture.new ≡ overlay self.size (sheet self.left self.top (rows f.now.s.now f.now.height f.now.width f.now.first).made) picture.old }
+        ensures { picture.new ≡ overlay self.size (sheet self.left self.top (rows_of f.now).made) picture.old }
     {
         let height = usize::from(f.height);
         let mut done = 0;

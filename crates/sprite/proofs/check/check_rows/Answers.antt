@@ -46,11 +46,6 @@ returns-in_err-check_row-in-Data c =
     let e = frame-bad-segment c.loop-y.invariant.1 l (data-told c.in-Data.is c.in_ok-count.ensures) (λ o. refused-not-ok _ (n ∙ o)) in
     x ∙ n ∙ sym (ap (λ (r : Ended (List Shade)). r.number) e)
 
-pub loop-y-smaller : goal.loop-y-smaller
-loop-y-smaller c =
-    let k = is-data c.args.f.now.s.now _ _ _ (data-told c.in-Data.is c.in_ok-count.ensures) in
-    omega (arith, k.head, k.within)
-
 pub loop-y-preserved : goal.loop-y-preserved
 loop-y-preserved c =
     let l : c.loop-y.y < c.args.f.now.height = omega arith in
