@@ -3,81 +3,69 @@
 
 mod text;
 
-ghost use Rattle.std.specs.Prelude.{◌≤◌, ◌≡◌, length, drop};
+ghost use Rattle.std.specs.Prelude.{◌≡◌, drop};
 ghost use Rattle.spec.specs.Boards.{board};
 ghost use Rattle.spec.specs.Feeds.{walk_step};
 ghost use Rattle.spec.specs.Listing.{board_line, chunk_line, end_line, too_large_line, step_line};
 
 use spec::{Answer, Record, Size, Step};
-use text::{put_byte, put_decimal, put_spaced, put_word};
-
-// A line is `text[start..]`: it is made from its end.
-#[derive(Clone, Copy)]
-pub struct Line {
-    pub text: [u8; Line::ROOM],
-    pub start: usize,
-}
-
-impl Line {
-    // five numbers of twenty digits, a word and what stands between them
-    pub const ROOM: usize = 128;
-}
+pub use text::Line;
 
 // "board 8 4"
 pub fn board_line(size: Size) -> Line
-    ensures text_value { drop result.start result.text ≡ board_line size }
-    ensures start_in_bounds { result.start ≤ length result.text }
+    ensures { drop result.start result.text ≡ board_line size }
 {
-    let mut text = [0; Line::ROOM];
-    let newline = put_byte(&mut text, Line::ROOM, b'\n');
-    let height = put_spaced(&mut text, newline, size.height);
-    let width = put_spaced(&mut text, height, size.width);
-    let start = put_word(&mut text, width, b"board");
-    Line { text, start }
+    let mut line = Line::new();
+    line.put_byte(b'\n');
+    line.put_spaced(size.height);
+    line.put_spaced(size.width);
+    line.put_word(b"board");
+    line
 }
 
 // "1 0 6 2 2": the chunk's number, its answer's number and place, the record's count of unsettled entries, and the answer's block
 pub fn chunk_line(chunk: usize, answer: Answer, unsettled: usize) -> Line
-    ensures text_value { drop result.start result.text ≡ chunk_line chunk answer unsettled }
-    ensures start_in_bounds { result.start ≤ length result.text }
+    ensures { drop result.start result.text ≡ chunk_line chunk answer unsettled }
 {
-    let mut text = [0; Line::ROOM];
-    let newline = put_byte(&mut text, Line::ROOM, b'\n');
-    let block = put_spaced(&mut text, newline, answer.block);
-    let count = put_spaced(&mut text, block, unsettled);
-    let place = put_spaced(&mut text, count, answer.place);
-    let number = put_spaced(&mut text, place, answer.number as usize);
-    let start = put_decimal(&mut text, number, chunk);
-    Line { text, start }
+    let Answer {
+        number,
+        place,
+        block,
+    } = answer;
+    let mut line = Line::new();
+    line.put_byte(b'\n');
+    line.put_spaced(block);
+    line.put_spaced(unsettled);
+    line.put_spaced(place);
+    line.put_spaced(usize::from(number));
+    line.put_decimal(chunk);
+    line
 }
 
 // "end 0 21"
 pub fn end_line(answer: Answer) -> Line
-    ensures text_value { drop result.start result.text ≡ end_line answer }
-    ensures start_in_bounds { result.start ≤ length result.text }
+    ensures { drop result.start result.text ≡ end_line answer }
 {
-    let mut text = [0; Line::ROOM];
-    let newline = put_byte(&mut text, Line::ROOM, b'\n');
-    let place = put_spaced(&mut text, newline, answer.place);
-    let number = put_spaced(&mut text, place, answer.number as usize);
-    let start = put_word(&mut text, number, b"end");
-    Line { text, start }
+    let mut line = Line::new();
+    line.put_byte(b'\n');
+    line.put_spaced(answer.place);
+    line.put_spaced(usize::from(answer.number));
+    line.put_word(b"end");
+    line
 }
 
 // "too large"
 pub fn too_large_line() -> Line
-    ensures text_value { drop result.start result.text ≡ too_large_line }
-    ensures start_in_bounds { result.start ≤ length result.text }
+    ensures { drop result.start result.text ≡ too_large_line }
 {
-    let mut text = [0; Line::ROOM];
-    let start = put_word(&mut text, Line::ROOM, b"too large\n");
-    Line { text, start }
+    let mut line = Line::new();
+    line.put_word(b"too large\n");
+    line
 }
 
 // The line of one step of the walk, with the record's count.
 fn step_line(chunk: usize, step: Step) -> Line
-    ensures text_value { drop result.start result.text ≡ step_line chunk step }
-    ensures start_in_bounds { result.start ≤ length result.text }
+    ensures { drop result.start result.text ≡ step_line chunk step }
 {
     let answer = step.answer;
     if step.chunk {
@@ -106,7 +94,6 @@ pub fn list_step(
     ensures picture_after { picture.new ≡ (walk_step kept.size feed.now at (board picture.old map.old kept.unsettled)).board.picture }
     ensures map_after { map.new ≡ (walk_step kept.size feed.now at (board picture.old map.old kept.unsettled)).board.map }
     ensures text_value { drop result.line.start result.line.text ≡ step_line chunk result.step }
-    ensures start_in_bounds { result.line.start ≤ length result.line.text }
 {
     let step = feed::step(kept, feed, at, picture, map);
     let line = step_line(chunk, step);

@@ -1,69 +1,90 @@
-// Text made from its end: each function puts something in front of what stands from `end` on, and answers where it now starts.
-ghost use Rattle.std.specs.Prelude.{◌+◌, ◌^◌, ◌<◌, ◌≤◌, ◌≡◌, ◌∷◌, ◌++◌, length, drop};
+// A line of text, made from its end: each function puts something in front of what stands there. By hand, since `write!` says what it has
+// written only where it succeeds, and `board_line` and the others cannot fail.
+ghost use Rattle.std.specs.Prelude.{◌+◌, ◌^◌, ◌<◌, ◌≤◌, ◌≡◌, [], ◌∷◌, ◌++◌, length, drop};
 ghost use Rattle.spec.specs.Listing.{higher_digits, decimal};
 
-pub fn put_byte(text: &mut [u8], end: usize, byte: u8) -> usize
-    requires le_end { 1 ≤ end }
-    requires end_in_bounds { end ≤ length text.old }
-    ensures result_value { result + 1 ≡ end }
-    ensures text_after { drop result text.new ≡ byte ∷ drop end text.old }
-{
-    text[end - 1] = byte;
-    end - 1
+// The line is `text[start..]`.
+#[derive(Clone, Copy)]
+pub struct Line {
+    pub text: [u8; Line::ROOM],
+    pub start: usize,
+    ghost start_in_bounds: { start ≤ length text },
 }
 
-pub fn put_word(text: &mut [u8], end: usize, word: &[u8]) -> usize
-    requires word_len_bound { length word.now ≤ end }
-    requires end_in_bounds { end ≤ length text.old }
-    ensures upper_bound { result ≤ end }
-    ensures text_after { drop result text.new ≡ word.now ++ drop end text.old }
-{
-    let mut left = word.len();
-    let mut at = end;
-    while left > 0 {
-        left -= 1;
-        at -= 1;
-        text[at] = word[left];
+impl Line {
+    // five numbers of twenty digits, a word and what stands between them
+    pub const ROOM: usize = 128;
+
+    // An empty line.
+    pub(crate) fn new() -> Self
+        ensures start_value { result.start ≡ Self.ROOM }
+        ensures text_value { drop result.start result.text ≡ [] }
+    {
+        Self {
+            text: [0; Line::ROOM],
+            start: Line::ROOM,
+        }
     }
-    at
-}
 
-// The digits of a number in front of its last, none where there are none.
-fn put_higher(text: &mut [u8], end: usize, n: usize) -> usize
-    requires n_bound { n < 10 ^ 19 }
-    requires le_end { 19 ≤ end }
-    requires end_in_bounds { end ≤ length text.old }
-    ensures upper_bound { (result ≤ end) × (end ≤ result + 19) }
-    ensures text_after { drop result text.new ≡ higher_digits 19 n (drop end text.old) }
-{
-    let mut at = end;
-    let mut left = n;
-    while left > 0 {
-        at -= 1;
-        text[at] = b'0' + (left % 10) as u8;
-        left /= 10;
+    // Its bytes.
+    pub fn as_slice(&self) -> &[u8]
+        ensures { result.now ≡ drop self.now.start self.now.text }
+    {
+        &self.text[self.start..]
     }
-    at
-}
 
-// A number in decimal, of at most twenty digits.
-pub fn put_decimal(text: &mut [u8], end: usize, n: usize) -> usize
-    requires le_end { 20 ≤ end }
-    requires end_in_bounds { end ≤ length text.old }
-    ensures upper_bound { (result ≤ end) × (end ≤ result + 20) }
-    ensures text_after { drop result text.new ≡ decimal n (drop end text.old) }
-{
-    let last = put_byte(text, end, b'0' + (n % 10) as u8);
-    put_higher(text, last, n / 10)
-}
+    pub(crate) fn put_byte(&mut self, byte: u8)
+        requires { 1 ≤ self.old.start }
+        ensures start_after { self.new.start + 1 ≡ self.old.start }
+        ensures text_after { drop self.new.start self.new.text ≡ byte ∷ drop self.old.start self.old.text }
+    {
+        self.start -= 1;
+        self.text[self.start] = byte;
+    }
 
-// A number with a space before it.
-pub fn put_spaced(text: &mut [u8], end: usize, n: usize) -> usize
-    requires le_end { 21 ≤ end }
-    requires end_in_bounds { end ≤ length text.old }
-    ensures upper_bound { (result ≤ end) × (end ≤ result + 21) }
-    ensures text_after { drop result text.new ≡ 32 ∷ decimal n (drop end text.old) }
-{
-    let digits = put_decimal(text, end, n);
-    put_byte(text, digits, b' ')
+    pub(crate) fn put_word(&mut self, word: &[u8])
+        requires { length word.now ≤ self.old.start }
+        ensures start_after { self.new.start + length word.now ≡ self.old.start }
+        ensures text_after { drop self.new.start self.new.text ≡ word.now ++ drop self.old.start self.old.text }
+    {
+        let end = self.start;
+        let start = end - word.len();
+        let text = &mut self.text[..];
+        text[start..end].copy_from_slice(word);
+        self.start = start;
+    }
+
+    // The digits of a number in front of its last, none where there are none.
+    fn put_higher(&mut self, n: usize)
+        requires n_bound { n < 10 ^ 19 }
+        requires room { 19 ≤ self.old.start }
+        ensures start_after { (self.new.start ≤ self.old.start) × (self.old.start ≤ self.new.start + 19) }
+        ensures text_after { drop self.new.start self.new.text ≡ higher_digits 19 n (drop self.old.start self.old.text) }
+    {
+        let mut left = n;
+        while left > 0 {
+            self.put_byte(b'0' + (left % 10) as u8);
+            left /= 10;
+        }
+    }
+
+    // A number in decimal, of at most twenty digits.
+    pub(crate) fn put_decimal(&mut self, n: usize)
+        requires { 20 ≤ self.old.start }
+        ensures start_after { (self.new.start ≤ self.old.start) × (self.old.start ≤ self.new.start + 20) }
+        ensures text_after { drop self.new.start self.new.text ≡ decimal n (drop self.old.start self.old.text) }
+    {
+        self.put_byte(b'0' + (n % 10) as u8);
+        self.put_higher(n / 10);
+    }
+
+    // A number with a space before it.
+    pub(crate) fn put_spaced(&mut self, n: usize)
+        requires { 21 ≤ self.old.start }
+        ensures start_after { (self.new.start ≤ self.old.start) × (self.old.start ≤ self.new.start + 21) }
+        ensures text_after { drop self.new.start self.new.text ≡ 32 ∷ decimal n (drop self.old.start self.old.text) }
+    {
+        self.put_decimal(n);
+        self.put_byte(b' ');
+    }
 }

@@ -1,13 +1,13 @@
 -- Strips laid one after the other make a row, and rows a frame. Assumes nothing.
 use Prim.Native.Nat.{ℕ, zero, suc, ◌+◌, ◌-◌, ◌/◌, ◌%◌, ◌<◌, ◌≤◌}
-use mathlib.Core.Path.{◌≡◌, refl, ap, ◌∙◌}
+use mathlib.Core.Path.{◌≡◌, refl, ◌∙◌}
 use mathlib.Core.Logic.{◌≢◌}
 use mathlib.Core.List.{List, [], ◌∷◌, ◌++◌}
 use native.Mathlib.Nat.{zero-mul, mul_comm, div-lt_iff_lt-mul}
 use native.Mathlib.Omega.{arith}
 use lib.Dec.{ltb, eqb}
 use lib.ListN.{length, get_or, replicate, get_or-replicate, length-replicate, get_or-append, get_or-eq_default}
-use lib.Seq.{get_or-append-add}
+use lib.Seq.{get_or-append_right}
 use borrow.Author.Tests.{lt-ltb, le-ltb, ltb-true, ltb-false, ne_eqb, eqb-true, eqb-false}
 use Rattle.spec.specs.declared.Size.{Size}
 use Rattle.spec.specs.Basics.{if}
@@ -18,12 +18,7 @@ use Rattle.sprite.specs.Strips.{origin, along, strip, sheet}
 use Rattle.sprite.proofs.Splits.{split, split_at}
 use Rattle.sprite.proofs.Overlays.{at, overlay-same, overlay-none, overlay-over}
 
--- an element of the second of two lists
-behind : {A : Type 0} (a b : List A) (d : A) (i : ℕ) → length a ≤ i → get_or (a ++ b) i d ≡ get_or b (i - length a) d
-behind a b d i h =
-    let e : i ≡ length a + (i - length a) = omega arith in
-    ap (λ (j : ℕ). get_or (a ++ b) j d) e ∙ get_or-append-add a b (i - length a) d
-
+-- an element of equal ones
 get_d_default : {A : Type 0} (d : A) (n i : ℕ) → get_or (replicate n d) i d ≡ d
 get_d_default d n i =
     split (ltb i n) (λ t. get_or-replicate n i d d (ltb-true i n t)) (λ t.
@@ -54,7 +49,7 @@ along-more left a b x old =
     let e : i - left - length a ≡ i - (left + length a) = omega arith in
     let l : length a ≤ i - left = omega arith in
     let n : left ≤ i = omega arith in
-    rw (along-past left a x h, along-from (left + length a) b x h, along-from left (a ++ b) x n, behind a b background (i - left) l, e))
+    rw (along-past left a x h, along-from (left + length a) b x h, along-from left (a ++ b) x n, get_or-append_right a b (i - left) background l, e))
 
 along-clear : (left n x : ℕ) → along left (replicate n background) x ≡ background
 along-clear left n x =
@@ -120,7 +115,7 @@ module _ (z : Size) (left : ℕ) where
         (λ h.
         let t : top ≤ i = omega arith in
         let m : length rows ≤ i - top = omega arith in
-        rw (le-ltb i top t, behind rows (sh ∷ []) [] (i - top) m, get_or-eq_default rows [] m) (below i h))
+        rw (le-ltb i top t, get_or-append_right rows (sh ∷ []) (i - top) [] m, get_or-eq_default rows [] m) (below i h))
       where
         below : (i : ℕ) → top + length rows ≤ i
             → upon (if (eqb i (top + length rows)) (along left sh x) background) (upon (along left [] x) old)
@@ -155,7 +150,7 @@ module _ (z : Size) (left : ℕ) where
         (λ h.
         let t : top ≤ i = omega arith in
         let m : length rows ≤ i - top = omega arith in
-        rw (le-ltb i top t, behind rows (replicate n []) [] (i - top) m, get_or-eq_default rows [] m, get_d_default {A = List Shade} [] n (i - top - length rows)))
+        rw (le-ltb i top t, get_or-append_right rows (replicate n []) (i - top) [] m, get_or-eq_default rows [] m, get_d_default {A = List Shade} [] n (i - top - length rows)))
 
     pub sheet-blank : (n : ℕ) (pic : List ℕ) → overlay z (sheet left top rows) pic ≡ overlay z (sheet left top (rows ++ replicate n [])) pic
     sheet-blank n pic = overlay-same z (sheet left top rows) (sheet left top (rows ++ replicate n [])) pic (λ p h. blank-at n (p % z.width) (p / z.width))

@@ -1,13 +1,13 @@
 -- A frame at a signed position, and the same counted from -32,768. Assumes nothing.
 use Prim.Native.Nat.{ℕ, zero, suc, ◌+◌, ◌-◌, ◌/◌, ◌%◌, ◌<◌, ◌≤◌}
-use mathlib.Core.Path.{◌≡◌, refl, ap}
+use mathlib.Core.Path.{◌≡◌, refl}
 use mathlib.Core.List.{List}
 use mathlib.Core.Bool.{Bool, true, false, cond}
 use native.Mathlib.Omega.{arith}
 use lib.Dec.{ltb}
-use lib.IntN.{ℤ, pos, negsuc, ◌+ℤ◌, ◌-ℤ◌}
+use lib.IntN.{ℤ, pos, negsuc, ◌-ℤ◌}
 use lib.Signed.{mag}
-use mir.Syntax.{w16, w64}
+use mir.Syntax.{w16}
 use mir.Val.{SFits, to_z, of_z}
 use mir.Facts.{to_z-of_z}
 use borrow.Author.Tests.{lt-ltb, le-ltb, ltb-true, ltb-false}
@@ -46,33 +46,10 @@ module _ (rows : List (List Shade)) where
       overlay-same z (sheet (from_least left) (from_least top) rows) (placed left top rows) pic (λ p b.
       sheet-is (from_least left) (from_least top) (p % z.width) (p / z.width) _ _ (falls left (p % z.width) h) (falls top (p / z.width) g))
 
--- 32,768 more than a signed 16-bit number, in 64 bits
+-- a signed 16-bit number
 module _ (n : ℤ) (fits : SFits w16 n) where
   pub low : mag n < origin
   low = fits.sfits
 
   pub narrow : to_z w16 (of_z w16 n) ≡ n
   narrow = to_z-of_z fits
-
-  pub widens : SFits w64 n
-  widens = let h = low in record { sfits = omega arith }
-
-  pub wide : to_z w64 (of_z w64 n) ≡ n
-  wide = to_z-of_z widens
-
-  pub sum_is : n +ℤ pos origin ≡ pos (from_least n)
-  sum_is = by n low
-    where
-      by : (n : ℤ) → mag n < origin → n +ℤ pos origin ≡ pos (from_least n)
-      by (pos m) h = ap pos (omega arith)
-      by (negsuc m) h = rw (le-ltb origin (suc m) (omega arith))
-
-  pub sum_below : from_least n < 65536
-  sum_below = by n low
-    where
-      by : (n : ℤ) → mag n < origin → from_least n < 65536
-      by (pos m) h = omega arith
-      by (negsuc m) h = omega arith
-
-  pub sum_fits : SFits w64 (pos (from_least n))
-  sum_fits = let h = sum_below in record { sfits = omega arith }

@@ -6,9 +6,7 @@ use mathlib.Core.List.{List, [], ◌∷◌, ◌++◌}
 use native.Mathlib.Omega.{arith}
 use lib.ListN.{length, replicate, length-append, length-replicate}
 use Rattle.spec.specs.Answers.{ok, bad_row, bad_segment}
-use Rattle.sprite.specs.declared.heads.Segment.TheVariants as Segment
-use Rattle.sprite.specs.declared.heads.RowHead.TheVariants as RowHead
-use Rattle.sprite.specs.Frames.{Shade, reading, ended, segment_at, shades, row_from, row, row_at, marker, rows_from, rows}
+use Rattle.sprite.specs.Frames.{Segment, RowHead, Shade, reading, ended, segment_at, shades, row_from, row, row_at, marker, rows_from, rows}
 use Rattle.sprite.proofs.Segments.{stands, shades-count, row_done, row-bad, row_more}
 use Rattle.sprite.proofs.RowHeads.{is-blank, is-data, rows-done, rows-bad, rows-blank, rows-data, rows-refused}
 

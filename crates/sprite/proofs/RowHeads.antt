@@ -1,17 +1,25 @@
 -- What holds of a row's head, and the equations of a frame's rows. Assumes nothing. Here s are the file's bytes.
-use Prim.Native.Nat.{ℕ, ◌+◌, ◌-◌, ◌<◌, ◌≤◌}
+use Prim.Native.Nat.{ℕ, suc, ◌+◌, ◌-◌, ◌<◌, ◌≤◌}
 use mathlib.Core.Path.{◌≡◌, refl, sym, ap, ◌∙◌, subst}
 use mathlib.Core.Logic.{◌≢◌}
 use mathlib.Core.List.{List, [], ◌∷◌, ◌++◌}
+use mathlib.Core.Bool.{◌&&◌, and-eq-true_iff}
+use native.Mathlib.Numerals.{add-one}
 use native.Mathlib.Omega.{arith}
-use lib.Dec.{ltb, eqb}
-use lib.ListN.{length, get_or, replicate}
-use borrow.Author.Tests.{lt-ltb, le-ltb, ltb-false, ne_eqb}
+use lib.Dec.{leb, ltb, eqb}
+use lib.ListN.{length, get_or, drop, replicate, length-drop}
+use lib.Seq.{drop-cons}
+use borrow.Author.Tests.{lt-ltb, le-ltb, le-leb, leb-true, ltb-false, eqb-true, ne_eqb}
 use Rattle.spec.specs.Basics.{if}
-use Rattle.spec.specs.Answers.{ok, bad_row}
+use Rattle.spec.specs.Answers.{ok, bad_row, no_end_marker}
 use Rattle.spec.proofs.Lists.{by-test}
-use Rattle.sprite.specs.declared.heads.RowHead.{RowHead}
-use Rattle.sprite.specs.Frames.{Shade, Reading, reading, Ended, ended, follow, code_at, count_at, blank_code, data_code}
+use Rattle.spec.specs.declared.Refusal.{Refusal}
+use Rattle.spec.specs.Answers.{refusal_number}
+use Rattle.std.specs.Prelude.{Ok, Err}
+use Rattle.sprite.specs.declared.heads.RowHead as Read
+use Rattle.sprite.specs.declared.heads.RowHead.TheVariants as Code
+use Rattle.sprite.specs.Read.{row_head_result}
+use Rattle.sprite.specs.Frames.{RowHead, Shade, Reading, reading, Ended, ended, follow, code_at, count_at, blank_code, data_code, end_code}
 use Rattle.sprite.specs.Frames.{row_at, row_head_says, row, data_turn, row_turn, marker, rows_from}
 use Rattle.sprite.proofs.Gathering.{Onward, stops, goes, gather-end, gather-turn}
 
@@ -27,9 +35,49 @@ row-head-same (RowHead.Data end) RowHead.Bad h = absurd (omega (arith, ap length
 row-head-same (RowHead.Data end) (RowHead.Blank n) h = absurd (omega (arith, ap (λ (l : List ℕ). get_or l 1 0) h))
 row-head-same (RowHead.Data end) (RowHead.Data last) h = ap (λ (l : List ℕ). RowHead.Data (get_or l 2 0)) h
 
--- of a head that code was given, and has looked at
-pub row-head-told : {r x y : RowHead} → r ≡ x → row_head_says r ≡ row_head_says y → x ≡ y
-row-head-told {r} {x} {y} g e = sym g ∙ row-head-same r y e
+-- of a head that code was given, and of a refusal
+pub blank-told : {x : Read.RowHead} {n : ℕ} {y : RowHead} → x ≡ Code.Blank n → row_head_result (Ok x) ≡ row_head_says y → RowHead.Blank n ≡ y
+blank-told {x} {n} {y} g e = row-head-same (RowHead.Blank n) y (rw g at e)
+
+pub data-told : {x : Read.RowHead} {end : ℕ} {y : RowHead} → x ≡ Code.Data end → row_head_result (Ok x) ≡ row_head_says y → RowHead.Data end ≡ y
+data-told {x} {end} {y} g e = row-head-same (RowHead.Data end) y (rw g at e)
+
+pub row-head-refused : (why : Refusal) (y : RowHead) → row_head_result (Err why) ≡ row_head_says y → (RowHead.Bad ≡ y) × (refusal_number why ≡ bad_row)
+row-head-refused why RowHead.Bad e = (refl, ap (λ (l : List ℕ). get_or l 0 0) e)
+row-head-refused why (RowHead.Blank n) e = absurd (omega (arith, ap length e))
+row-head-refused why (RowHead.Data n) e = absurd (omega (arith, ap length e))
+
+-- the marker after the rows, by what stands from a place on
+module _ (s : List ℕ) (at : ℕ) where
+  second : at + 2 ≤ length s → drop at s ≡ code_at s at ∷ count_at s at ∷ drop (suc (suc at)) s
+  second h =
+      drop-cons s at 0 (omega arith)
+      ∙ ap (λ (t : List ℕ). code_at s at ∷ t) (drop-cons s (suc at) 0 (omega arith) ∙ rw add-one)
+
+  pub marker-ends : (rest : List ℕ) → drop at s ≡ end_code ∷ 0 ∷ rest → marker s at ≡ ok
+  unfolding marker if
+  marker-ends rest e =
+      let l = ap length e in
+      let d = length-drop at s in
+      let h : at + 2 ≤ length s = omega arith in
+      let p = second h in
+      let a : code_at s at ≡ end_code = cc in
+      let b : count_at s at ≡ 0 = cc in
+      rw (le-leb _ _ h, a, b)
+
+  pub marker-else : ((rest : List ℕ) → ¬ (drop at s ≡ end_code ∷ 0 ∷ rest)) → marker s at ≡ no_end_marker
+  unfolding marker
+  marker-else k =
+      let rest = leb (at + 2) (length s) in
+      by-test (λ (n : ℕ). n ≡ no_end_marker) (rest && (eqb (code_at s at) end_code && eqb (count_at s at) 0))
+      (λ t.
+      let both = (and-eq-true_iff rest (eqb (code_at s at) end_code && eqb (count_at s at) 0)).0 t in
+      let two = (and-eq-true_iff (eqb (code_at s at) end_code) (eqb (count_at s at) 0)).0 both.1 in
+      let a = eqb-true (code_at s at) end_code two.0 in
+      let b = eqb-true (count_at s at) 0 two.1 in
+      let p = second (leb-true _ _ both.0) in
+      absurd (k (drop (suc (suc at)) s) (p ∙ rw (a, b))))
+      (λ t. refl)
 
 module _ (s : List ℕ) where
   -- rows of background, and a row with data, whose heads are whole

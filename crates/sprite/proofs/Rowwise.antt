@@ -10,13 +10,10 @@ use borrow.Author.Tests.{eqb-true, eqb-false}
 use Rattle.spec.specs.declared.Size.{Size}
 use Rattle.spec.specs.Answers.{ok, bad_row}
 use Rattle.spec.specs.Sizes.{pixels}
-use Rattle.sprite.specs.declared.heads.Segment.TheVariants as Segment
-use Rattle.sprite.specs.declared.heads.RowHead.TheVariants as RowHead
-use Rattle.sprite.specs.Frames.{Shade, Ended, ended, segment_at, shades, row, row_at, rows}
+use Rattle.sprite.specs.Frames.{Segment, RowHead, Shade, Ended, ended, segment_at, shades, row, row_at, rows}
 use Rattle.sprite.specs.Symbols.{overlay}
-use Rattle.sprite.specs.Strips.{strip, sheet, RowLent, FrameLent}
+use Rattle.sprite.specs.Strips.{strip, sheet}
 use Rattle.sprite.proofs.Splits.{split}
-use Rattle.sprite.proofs.Overlays.{length-overlay}
 use Rattle.sprite.proofs.Laying.{strip-clear, strip-more, sheet-none, sheet-row, sheet-blank}
 use Rattle.sprite.proofs.Progress.{InRow, row-begins, row-goes-on, row-ends-bad, row_ends, InFrame, frame-begins, frame-ends, frame-bad-row, frame-blank, frame-data, frame-bad-segment}
 
@@ -25,14 +22,11 @@ pub record RowPainted (z : Size) (s : List ℕ) (width first end left line : ℕ
   pub read : InRow s width first end x next made
   pub is : pic ≡ overlay z (strip left line made) pic₀
 
-module _ {z : Size} {s : List ℕ} {width first end left line : ℕ} {pic₀ : List ℕ} (lent : RowLent z s width first end left pic₀) where
-  pub row-unpainted : RowPainted z s width first end left line pic₀ 0 first pic₀ []
-  row-unpainted = record { read = row-begins lent.order; is = strip-clear z left line 0 pic₀ lent.exact }
+module _ {z : Size} {s : List ℕ} {width first end left line : ℕ} {pic₀ : List ℕ} (within : end ≤ length s) (exact : length pic₀ ≡ pixels z) where
+  pub row-unpainted : first ≤ end → RowPainted z s width first end left line pic₀ 0 first pic₀ []
+  row-unpainted order = record { read = row-begins order; is = strip-clear z left line 0 pic₀ exact }
 
   module _ {x next : ℕ} {pic : List ℕ} {made : List Shade} (k : RowPainted z s width first end left line pic₀ x next pic made) where
-    pub row-length : length pic ≡ pixels z
-    row-length = ap length k.is ∙ length-overlay z _ pic₀
-
     joined : (sh : List Shade) → overlay z (strip (left + x) line sh) pic ≡ overlay z (strip left line (made ++ sh)) pic₀
     joined sh =
         let e : left + x ≡ left + length made = ap (λ (n : ℕ). left + n) (sym k.read.size) in
@@ -45,7 +39,7 @@ module _ {z : Size} {s : List ℕ} {width first end left line : ℕ} {pic₀ : L
         → RowPainted z s width first end left line pic₀ (x + n) after pic' (made ++ shades s next)
     row-paints-on l e q =
         record {
-          read = row-goes-on lent.within k.read l e;
+          read = row-goes-on within k.read l e;
           is = q ∙ joined (shades s next);
         }
 
@@ -53,24 +47,21 @@ module _ {z : Size} {s : List ℕ} {width first end left line : ℕ} {pic₀ : L
     made-is e q = k.is ∙ sym (ap (λ (r : Ended Shade). overlay z (strip left line r.made) pic₀) q)
 
     pub row-painted-bad : next < end → Segment.Bad ≡ segment_at s end (width - x) next → pic ≡ overlay z (strip left line (row s width first end).made) pic₀
-    row-painted-bad l e = made-is _ (row-ends-bad lent.within k.read l e)
+    row-painted-bad l e = made-is _ (row-ends-bad within k.read l e)
 
     pub row-painted : end ≤ next → pic ≡ overlay z (strip left line (row s width first end).made) pic₀
-    row-painted l = made-is _ (row_ends lent.within k.read l)
+    row-painted l = made-is _ (row_ends within k.read l)
 
 -- y rows of a frame have been painted on what was lent
 pub record FramePainted (z : Size) (s : List ℕ) (height width first left top : ℕ) (pic₀ : List ℕ) (y at : ℕ) (pic : List ℕ) (made : List (List Shade)) : Type 0 where
   pub read : InFrame s height width first y at made
   pub is : pic ≡ overlay z (sheet left top made) pic₀
 
-module _ {z : Size} {s : List ℕ} {height width first left top : ℕ} {pic₀ : List ℕ} (lent : FrameLent z s height width first left top pic₀) where
-  pub frame-unpainted : FramePainted z s height width first left top pic₀ 0 first pic₀ []
-  frame-unpainted = record { read = frame-begins lent.start; is = sheet-none z left top pic₀ lent.exact }
+module _ {z : Size} {s : List ℕ} {height width first left top : ℕ} {pic₀ : List ℕ} (accepted : (rows s height width first).number ≡ ok) (exact : length pic₀ ≡ pixels z) where
+  pub frame-unpainted : first ≤ length s → FramePainted z s height width first left top pic₀ 0 first pic₀ []
+  frame-unpainted start = record { read = frame-begins start; is = sheet-none z left top pic₀ exact }
 
   module _ {y at : ℕ} {pic : List ℕ} {made : List (List Shade)} (k : FramePainted z s height width first left top pic₀ y at pic made) where
-    pub frame-length : length pic ≡ pixels z
-    frame-length = ap length k.is ∙ length-overlay z _ pic₀
-
     pub frame-painted : height ≤ y → pic ≡ overlay z (sheet left top (rows s height width first).made) pic₀
     frame-painted l =
         k.is ∙ sym (ap (λ (r : Ended (List Shade)). overlay z (sheet left top r.made) pic₀) (frame-ends k.read l))
@@ -85,7 +76,7 @@ module _ {z : Size} {s : List ℕ} {height width first left top : ℕ} {pic₀ :
     module _ (l : y < height) where
       -- an accepted frame has no row and no segment that is refused
       refused : (e : ℕ) → rows s height width first ≡ ended e made → e ≡ ok
-      refused e q = sym (ap (λ (r : Ended (List Shade)). r.number) q) ∙ lent.accepted
+      refused e q = sym (ap (λ (r : Ended (List Shade)). r.number) q) ∙ accepted
 
       pub no-bad-row : RowHead.Bad ≢ row_at s (height - y) at
       no-bad-row e = let q = refused bad_row (frame-bad-row k.read l e) in omega (arith, q)

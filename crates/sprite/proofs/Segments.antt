@@ -1,17 +1,24 @@
 -- What holds of a segment, and the equations of a row. Assumes nothing. Here s are the file's bytes.
 use Prim.Native.Nat.{ℕ, ◌+◌, ◌-◌, ◌<◌, ◌≤◌}
 use mathlib.Core.Path.{◌≡◌, refl, sym, ap, ◌∙◌, subst}
+use mathlib.Core.Logic.{◌≢◌}
 use mathlib.Core.List.{List, ◌++◌}
 use native.Mathlib.Omega.{arith}
 use lib.Dec.{ltb, eqb}
 use lib.ListN.{length, get_or, length-map, length-replicate}
-use borrow.Author.Tests.{lt-ltb, le-ltb, ltb-false, eqb-true, eqb-false}
+use borrow.Author.Tests.{lt-ltb, le-ltb, ltb-false, eqb-true, eqb-false, ne_eqb}
 use Rattle.spec.specs.Basics.{if, part}
 use Rattle.spec.specs.Answers.{ok, bad_segment}
 use Rattle.spec.proofs.Lists.{by-test}
 use Rattle.spec.proofs.Parts.{length_part}
-use Rattle.sprite.specs.declared.heads.Segment.{Segment}
-use Rattle.sprite.specs.Frames.{Shade, colour, Reading, reading, ended, follow, code_at, count_at, run_code, copy_code}
+use Rattle.spec.specs.declared.Refusal.{Refusal}
+use Rattle.spec.specs.Answers.{refusal_number}
+use Rattle.std.specs.Prelude.{Ok, Err}
+use Rattle.sprite.specs.declared.heads.Segment as Code
+use Rattle.sprite.specs.declared.heads.SegmentCode.{SegmentCode}
+use Rattle.sprite.specs.declared.heads.SegmentCode.TheVariants as Of
+use Rattle.sprite.specs.Read.{segment_code, shown, segment_result}
+use Rattle.sprite.specs.Frames.{Segment, Shade, colour, Reading, reading, ended, follow, code_at, count_at, run_code, copy_code}
 use Rattle.sprite.specs.Frames.{segment_bytes, segment_at, segment_says, shades, segment_turn, row_from}
 use Rattle.sprite.proofs.Gathering.{Onward, stops, goes, gather-end, gather-turn}
 
@@ -22,9 +29,13 @@ segment-same Segment.Bad (Segment.Pixels n p) h = absurd (omega (arith, ap lengt
 segment-same (Segment.Pixels n p) Segment.Bad h = absurd (omega (arith, ap length h))
 segment-same (Segment.Pixels n p) (Segment.Pixels m q) h = ap (λ (l : List ℕ). Segment.Pixels (get_or l 1 0) (get_or l 2 0)) h
 
--- of a segment that code was given, and has looked at
-pub segment-told : {r x y : Segment} → r ≡ x → segment_says r ≡ segment_says y → x ≡ y
-segment-told {r} {x} {y} g e = sym g ∙ segment-same r y e
+-- of a segment that code was given, and of a refusal
+pub segment-told : (x : Code.Segment × ℕ) {y : Segment} → segment_result (Ok x) ≡ segment_says y → Segment.Pixels (length (shown x.0)) x.1 ≡ y
+segment-told x {y} e = segment-same (Segment.Pixels (length (shown x.0)) x.1) y e
+
+pub segment-refused : (why : Refusal) (y : Segment) → segment_result (Err why) ≡ segment_says y → (Segment.Bad ≡ y) × (refusal_number why ≡ bad_segment)
+segment-refused why Segment.Bad e = (refl, ap (λ (l : List ℕ). get_or l 0 0) e)
+segment-refused why (Segment.Pixels n p) e = absurd (omega (arith, ap length e))
 
 -- the bytes that a copy needs, and a run
 pub bytes-copy : (code n : ℕ) → code ≡ copy_code → 2 + n ≤ segment_bytes code n
@@ -35,6 +46,18 @@ pub bytes_run : (code n : ℕ) → code ≡ run_code → segment_bytes code n �
 unfolding segment_bytes if
 bytes_run code n e = rw e
 
+-- a segment's code and count take two bytes, and none of the codes has none
+pub some-bytes : (x : SegmentCode) (n : ℕ) → 2 ≤ segment_bytes (segment_code x) n
+unfolding segment_bytes if
+some-bytes Of.Clear n = omega arith
+some-bytes Of.Run n = omega arith
+some-bytes Of.Copy n = omega arith
+
+pub no-bytes : (code n : ℕ) → ((x : SegmentCode) → ¬ (segment_code x ≡ code)) → segment_bytes code n ≡ 0
+unfolding segment_bytes if
+no-bytes code n h =
+    rw (ne_eqb _ _ (λ e. h Of.Clear (sym e)), ne_eqb _ _ (λ e. h Of.Run (sym e)), ne_eqb _ _ (λ e. h Of.Copy (sym e)))
+
 module _ (s : List ℕ) where
   -- the segment at a place is whole within its row
   pub record Stands (end room at n next : ℕ) : Type 0 where
@@ -44,6 +67,12 @@ module _ (s : List ℕ) where
     pub after : next ≡ at + segment_bytes (code_at s at) (count_at s at)
     pub onward : at < next
     pub within : next ≤ end
+
+  -- and, where all that is known, it is that segment
+  pub pixels-at : (end room at n size : ℕ) → at + 2 ≤ end → count_at s at ≡ n → segment_bytes (code_at s at) n ≡ size → size ≢ 0 → at + size ≤ end → n ≤ room
+      → segment_at s end room at ≡ Segment.Pixels n (at + size)
+  unfolding segment_at if
+  pixels-at end room at n size a b d f g k = rw (b, d, le-ltb _ _ a, ne_eqb _ _ f, le-ltb _ _ g, le-ltb _ _ k)
 
   abbrev Stood : (end room at : ℕ) → Segment → Type 0
   Stood end room at Segment.Bad = Unit {0}

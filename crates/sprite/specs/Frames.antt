@@ -3,8 +3,6 @@
 use Rattle.std.specs.Prelude.{ℕ, suc, ◌+◌, ◌-◌, ◌%◌, List, [], ◌∷◌, ◌++◌, map, Bool, ◌&&◌, leb, ltb, eqb, length, get_or, replicate}
 use Rattle.spec.specs.Basics.{if, fuelled, part}
 use Rattle.spec.specs.Answers.{ok, bad_row, bad_segment, no_end_marker}
-use Rattle.sprite.specs.declared.heads.Segment.{Segment}
-use Rattle.sprite.specs.declared.heads.RowHead.{RowHead}
 use Rattle.sprite.specs.Files.{frame_bytes, height_at, width_at, offset_of, frame_fault}
 
 -- What a frame has for a pixel: background, or a colour of the palette
@@ -74,6 +72,11 @@ unfoldable pub segment_bytes : ℕ → ℕ → ℕ
 segment_bytes code n =
     if (eqb code clear_code) 2 (if (eqb code run_code) 4 (if (eqb code copy_code) (2 + n + n % 2) 0))
 
+-- A segment as it is read at a place: 19; or how many pixels it has, and the place after it
+pub data Segment : Type 0 where
+  Bad : Segment
+  Pixels : ℕ → ℕ → Segment
+
 -- the segment at a place of a row that ends at `end` and has room for so many pixels more: how many pixels it has, and the place after it.
 -- "its segments fill that count exactly and the width is not passed"; "segment counts may be 0"
 unfoldable pub segment_at : List ℕ → ℕ → ℕ → ℕ → Segment
@@ -112,6 +115,12 @@ row_from s width end st =
 
 abbrev pub row : List ℕ → ℕ → ℕ → ℕ → Ended Shade
 row s width at end = row_from s width end (reading at [])
+
+-- A row's head as it is read at a place: 18; or so many rows of background, or a row with data up to a place
+pub data RowHead : Type 0 where
+  Bad : RowHead
+  Blank : ℕ → RowHead
+  Data : ℕ → RowHead
 
 -- the head of a row at a place, where so many rows remain: so many rows of background, or a row with data up to a place.
 -- "A data row counts at least 4 bytes"; "09 .. may be 0"

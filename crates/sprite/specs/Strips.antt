@@ -1,11 +1,8 @@
 -- What the paint pass goes by: a row of a frame, or a part of it, as a strip of shades. Assumes nothing.
 -- Columns and rows that may lie off the picture are counted from -32,768, so that none is below 0: the picture's first is number `origin`.
-use Rattle.std.specs.Prelude.{ℕ, suc, ◌+◌, ◌-◌, ◌^◌, ◌<◌, ◌≤◌, min, ◌≡◌, List, [], ltb, eqb, ℤ, pos, negsuc, length, get_or}
-use Rattle.spec.specs.declared.Size.{Size}
-use Rattle.spec.specs.Answers.{ok}
+use Rattle.std.specs.Prelude.{ℕ, suc, ◌+◌, ◌-◌, min, ◌≡◌, List, [], ltb, eqb, ℤ, pos, negsuc, get_or}
 use Rattle.spec.specs.Basics.{if}
-use Rattle.spec.specs.Sizes.{pixels}
-use Rattle.sprite.specs.Frames.{Shade, background, code_at, count_at, segment_bytes, rows}
+use Rattle.sprite.specs.Frames.{Shade, background}
 
 abbrev pub origin : ℕ
 origin = 32768
@@ -43,29 +40,3 @@ pub record Clipped (width left count hides starts shows : ℕ) : Type 0 where
   pub hidden : hides ≡ hidden left
   pub column : starts ≡ column left
   pub seen : shows ≡ seen width left count
-
--- What the functions of the paint pass ask for. A segment at s[at] that is whole, of so many pixels, and row y of a picture of the size
-pub record SegmentLent (z : Size) (s : List ℕ) (at count y : ℕ) (pic : List ℕ) : Type 0 where
-  pub head : at + 2 ≤ length s
-  pub whole : at + segment_bytes (code_at s at) (count_at s at) ≤ length s
-  pub counts : count ≡ count_at s at
-  pub low : y < z.height
-  pub exact : length pic ≡ pixels z
-
--- segments from s[first] up to s[end], for a row that starts at column `left`, and a picture of the size
-pub record RowLent (z : Size) (s : List ℕ) (width first end left : ℕ) (pic : List ℕ) : Type 0 where
-  pub order : first ≤ end
-  pub within : end ≤ length s
-  pub narrow : width < 2 ^ 16
-  pub near : left < 2 ^ 16
-  pub exact : length pic ≡ pixels z
-
--- rows from s[first] on that are accepted, for a frame that starts at column `left` and row `top`, and a picture of the size
-pub record FrameLent (z : Size) (s : List ℕ) (height width first left top : ℕ) (pic : List ℕ) : Type 0 where
-  pub start : first ≤ length s
-  pub accepted : (rows s height width first).number ≡ ok
-  pub low : height < 2 ^ 16
-  pub narrow : width < 2 ^ 16
-  pub near : left < 2 ^ 16
-  pub high : top < 2 ^ 16
-  pub exact : length pic ≡ pixels z

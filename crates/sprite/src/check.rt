@@ -1,83 +1,77 @@
 // The check pass: it decides the answer for a frame, and writes nothing. Here s is the file.
-ghost use Rattle.std.specs.Prelude.{◌≡◌, ◌≤◌, length};
-ghost use Rattle.sprite.specs.Frames.{row, marker, rows, frame};
+ghost use Rattle.std.specs.Prelude.{◌≡◌, ◌≤◌, length, IfOk};
+ghost use Rattle.spec.specs.Answers.{number_of};
+ghost use Rattle.sprite.specs.Frames.{marker, frame};
+ghost use Rattle.sprite.specs.Held.{row_of, rows_of};
 
-use crate::heads::{RowHead, Segment};
+use crate::files::Frame;
+use crate::heads::{Row, RowHead};
 use crate::{files, heads};
-use spec::Answer;
+use spec::Refusal;
 
-// 19 or 0 for the segments of a row with data, from s[at] up to s[end].
-fn check_row(s: &[u8], width: usize, at: usize, end: usize) -> u8
-    requires at_le_end { at ≤ end }
-    requires end_in_bounds { end ≤ length s.now }
-    ensures { result ≡ (row s.now width at end).number }
+// What follows the rows. specs/Frames.antt has its code as `end_code`.
+const END_MARKER: [u8; 2] = [5, 0];
+
+// 19 for the segments of a row with data.
+fn check_row(r: &Row) -> Result<(), Refusal>
+    ensures { number_of result ≡ (row_of r.now).number }
 {
     let mut x = 0;
-    let mut next = at;
-    while next < end {
-        match heads::segment_at(s, end, width - x, next) {
-            Segment::Bad => return Answer::BAD_SEGMENT,
-            Segment::Pixels(count, after) => {
-                x += count;
-                next = after;
-            }
-        }
+    let mut next = r.first;
+    while next < r.end {
+        let (segment, after) = r.segment_at(x, next)?;
+        x += segment.count();
+        next = after;
     }
-    Answer::OK
+    Ok(())
 }
 
-// 20 or 0 for what follows the rows.
-fn check_marker(s: &[u8], at: usize) -> u8
+// 20 for what follows the rows.
+fn check_marker(s: &[u8], at: usize) -> Result<(), Refusal>
     requires { at ≤ length s.now }
-    ensures { result ≡ marker s.now at }
+    ensures { number_of result ≡ marker s.now at }
 {
-    if s.len() - at < 2 {
-        return Answer::NO_END_MARKER;
+    if s[at..].starts_with(&END_MARKER) {
+        return Ok(());
     }
-    if s[at] != RowHead::END {
-        return Answer::NO_END_MARKER;
-    }
-    if s[at + 1] != 0 {
-        return Answer::NO_END_MARKER;
-    }
-    Answer::OK
+    Err(Refusal::NoEndMarker)
 }
 
-// 18, 19, 20 or 0 for the rows from s[first] on.
-fn check_rows(s: &[u8], height: usize, width: usize, first: usize) -> u8
-    requires { first ≤ length s.now }
-    ensures { result ≡ (rows s.now height width first).number }
+// 18, 19 or 20 for the rows of a frame.
+fn check_rows(f: &Frame) -> Result<(), Refusal>
+    ensures { number_of result ≡ (rows_of f.now).number }
 {
+    let height = usize::from(f.height);
     let mut y = 0;
-    let mut at = first;
+    let mut at = f.first;
     while y < height {
-        match heads::row_at(s, height - y, at) {
-            RowHead::Bad => return Answer::BAD_ROW,
+        match heads::row_at(f, y, at)? {
             RowHead::Blank(count) => {
                 y += count;
                 at += 2;
             }
             RowHead::Data(end) => {
-                let number = check_row(s, width, at + 2, end);
-                if number != Answer::OK {
-                    return number;
-                }
+                let r = Row {
+                    s: f.s,
+                    width: f.width,
+                    first: at + 2,
+                    end,
+                };
+                check_row(&r)?;
                 y += 1;
                 at = end;
             }
         }
     }
-    check_marker(s, at)
+    check_marker(f.s, at)
 }
 
-// The number of the answer for frame k.
-pub fn check(s: &[u8], k: usize) -> u8
-    ensures { result ≡ (frame s.now k).number }
+// Frame k of a file, where it is accepted; or its refusal.
+pub fn check(s: &[u8], k: usize) -> Result<Frame<'_>, Refusal>
+    ensures number { number_of result ≡ (frame s.now k).number }
+    ensures accepted { IfOk result (λ f. rows_of f ≡ frame s.now k) }
 {
-    let number = files::frame_fault(s, k);
-    if number != Answer::OK {
-        return number;
-    }
-    let head = files::frame_at(s, k);
-    check_rows(s, head.height, head.width, head.first)
+    let f = files::frame_at(s, k)?;
+    check_rows(&f)?;
+    Ok(f)
 }

@@ -1,19 +1,20 @@
 // A sprite file's head and offset table, and a frame's head. Here s is the file.
-ghost use Rattle.std.specs.Prelude.{◌≡◌, ◌+◌, ◌^◌, ◌<◌};
-ghost use Rattle.spec.specs.Answers.{ok};
-ghost use Rattle.sprite.specs.Files.{is_sprite, is_frame, offset_of, height_at, width_at, frame_bytes, frame_fault};
+ghost use Rattle.std.specs.Prelude.{◌≡◌, ◌≤◌, ◌<◌, ◌^◌, length, IfOk};
+ghost use Rattle.spec.specs.Answers.{number_of};
+ghost use Rattle.sprite.specs.Files.{is_sprite, is_frame, frame_fault};
+ghost use Rattle.sprite.specs.Frames.{rows, frame};
 
 use crate::bytes;
-use spec::Answer;
+use spec::Refusal;
 
 // The lengths of the file's head and of a frame's, and the versions. specs/Files.antt has the same names for the definitions.
 const HEAD_BYTES: usize = 12;
 
 const FRAME_BYTES: usize = 10;
 
-const FIRST_VERSION: usize = 502;
+const FIRST_VERSION: u32 = 502;
 
-const LAST_VERSION: usize = 505;
+const LAST_VERSION: u32 = 505;
 
 // Whether head and offset table are whole, and the version is one of the four.
 fn is_sprite(s: &[u8]) -> bool
@@ -29,7 +30,7 @@ fn is_sprite(s: &[u8]) -> bool
     if version > LAST_VERSION {
         return false;
     }
-    HEAD_BYTES + 4 * bytes::long(s, 4) <= s.len()
+    HEAD_BYTES + 4 * bytes::long(s, 4) as usize <= s.len()
 }
 
 // Whether a frame's head is whole, and its first two words are zero.
@@ -40,48 +41,38 @@ fn is_frame(s: &[u8], at: usize) -> bool
     if s.len() < at + FRAME_BYTES {
         return false;
     }
-    if bytes::word(s, at) != 0 {
-        return false;
-    }
-    bytes::word(s, at + 2) == 0
+    bytes::word(s, at) == 0 && bytes::word(s, at + 2) == 0
 }
 
-// 15, 16, 17 or 0 for a file and a frame's number.
-pub fn frame_fault(s: &[u8], frame: usize) -> u8
-    ensures { result ≡ frame_fault s.now frame }
-{
-    if is_sprite(s) {
-        if frame < bytes::long(s, 4) {
-            if is_frame(s, bytes::long(s, HEAD_BYTES + 4 * frame)) {
-                return Answer::OK;
-            }
-            return Answer::BAD_FRAME;
-        }
-        return Answer::NO_SUCH_FRAME;
-    }
-    Answer::BAD_SPRITE
-}
-
-// A frame's height and width, and the place of its first row.
+// A frame of a file: its height and width, and the place of its first row.
 #[derive(Clone, Copy)]
-pub struct Frame {
-    pub height: usize,
-    pub width: usize,
+pub struct Frame<'a> {
+    pub s: &'a [u8],
+    pub height: u16,
+    pub width: u16,
     pub first: usize,
+    ghost within: { first ≤ length s.now },
 }
 
-// Of a frame that there is.
-pub fn frame_at(s: &[u8], frame: usize) -> Frame
-    requires { frame_fault s.now frame ≡ ok }
-    ensures height_value { result.height ≡ height_at s.now (offset_of s.now frame) }
-    ensures width_value { result.width ≡ width_at s.now (offset_of s.now frame) }
-    ensures first_value { result.first ≡ offset_of s.now frame + frame_bytes }
-    ensures height_bound { (result.height < 2 ^ 16) × (result.width < 2 ^ 16) }
+// Frame k of a file; or 15, 16 or 17.
+pub fn frame_at(s: &[u8], k: usize) -> Result<Frame<'_>, Refusal>
+    ensures number { number_of result ≡ frame_fault s.now k }
+    ensures found { IfOk result (λ f. rows f.s.now f.height f.width f.first ≡ frame s.now k) }
 {
-    let at = bytes::long(s, HEAD_BYTES + 4 * frame);
-    Frame {
+    if !is_sprite(s) {
+        return Err(Refusal::BadSprite);
+    }
+    if bytes::long(s, 4) as usize <= k {
+        return Err(Refusal::NoSuchFrame);
+    }
+    let at = bytes::long(s, HEAD_BYTES + 4 * k) as usize;
+    if !is_frame(s, at) {
+        return Err(Refusal::BadFrame);
+    }
+    Ok(Frame {
+        s,
         height: bytes::word(s, at + 4),
         width: bytes::word(s, at + 6),
         first: at + FRAME_BYTES,
-    }
+    })
 }

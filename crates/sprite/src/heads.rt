@@ -1,105 +1,158 @@
 // The heads of rows and of segments, which both passes read. Here s is the file, and s[at] the head's first byte.
-ghost use Rattle.std.specs.Prelude.{◌≡◌, ◌≤◌, length};
-ghost use Rattle.sprite.specs.Frames.{segment_bytes, segment_at, segment_says, row_at, row_head_says};
+ghost use Rattle.std.specs.Prelude.{◌≡◌, ◌-◌, ◌≤◌, length, IfOk};
+ghost use Rattle.spec.specs.Answers.{bad_row, bad_segment};
+ghost use Rattle.sprite.specs.Frames.{segment_bytes, segment_at, segment_says, shades, row_at, row_head_says};
+ghost use Rattle.sprite.specs.Read.{Decodes, segment_code, shown, segment_result, row_code, row_head_result};
 
-use crate::bytes;
+use crate::files::Frame;
+use spec::Refusal;
 
-// A segment: refused; or how many pixels it has, and the place after it.
+// 001's codes of segments.
 #[derive(Clone, Copy)]
-pub enum Segment {
-    Bad,
-    Pixels(usize, usize),
+enum SegmentCode {
+    Clear,
+    Run,
+    Copy,
 }
 
-// A row's head: refused; so many rows of background; or a row with data up to a place.
+impl TryFrom<u8> for SegmentCode {
+    type Error = Refusal;
+
+    ghost try_from_gives = { Decodes segment_code bad_segment };
+
+    fn try_from(code: u8) -> Result<SegmentCode, Refusal> {
+        match code {
+            1 => Ok(SegmentCode::Clear),
+            2 => Ok(SegmentCode::Run),
+            3 => Ok(SegmentCode::Copy),
+            _ => Err(Refusal::BadSegment),
+        }
+    }
+}
+
+impl SegmentCode {
+    // The bytes of a segment that counts so many pixels, code and count included.
+    fn bytes(self, count: u8) -> usize
+        ensures { result ≡ segment_bytes (segment_code self) count }
+    {
+        let pixels = usize::from(count);
+        match self {
+            SegmentCode::Clear => 2,
+            SegmentCode::Run => 4,
+            SegmentCode::Copy => 2 + pixels + pixels % 2,
+        }
+    }
+}
+
+// A segment: so many pixels of background, so many of one colour, or a colour for each.
+#[derive(Clone, Copy)]
+pub enum Segment<'a> {
+    Clear(usize),
+    Run(usize, u8),
+    Copy(&'a [u8]),
+}
+
+impl Segment<'_> {
+    // How many pixels it has.
+    pub fn count(self) -> usize
+        ensures { result ≡ length (shown self.entry) }
+    {
+        match self {
+            Segment::Clear(n) => n,
+            Segment::Run(n, _) => n,
+            Segment::Copy(colours) => colours.len(),
+        }
+    }
+}
+
+// A row with data, in a frame of this width: its segments stand from s[first] up to s[end].
+#[derive(Clone, Copy)]
+pub struct Row<'a> {
+    pub s: &'a [u8],
+    pub width: u16,
+    pub first: usize,
+    pub end: usize,
+    ghost order: { first ≤ end },
+    ghost within: { end ≤ length s.now },
+}
+
+impl<'a> Row<'a> {
+    // The segment at s[at], behind x pixels of the row, and the place after it; or 19.
+    pub fn segment_at(&self, x: usize, at: usize) -> Result<(Segment<'a>, usize), Refusal>
+        requires x_le_width { x ≤ self.now.width }
+        requires at_le_end { at ≤ self.now.end }
+        ensures said { segment_result result ≡ segment_says (segment_at self.now.s.now self.now.end (self.now.width - x) at) }
+        ensures shows { IfOk result (λ g. shown g.0 ≡ shades self.now.s.now at) }
+    {
+        let s = self.s;
+        if self.end - at < 2 {
+            return Err(Refusal::BadSegment);
+        }
+        let count = s[at + 1];
+        let pixels = usize::from(count);
+        let code = SegmentCode::try_from(s[at])?;
+        let size = code.bytes(count);
+        if self.end - at < size {
+            return Err(Refusal::BadSegment);
+        }
+        if usize::from(self.width) - x < pixels {
+            return Err(Refusal::BadSegment);
+        }
+        let after = at + size;
+        match code {
+            SegmentCode::Clear => Ok((Segment::Clear(pixels), after)),
+            SegmentCode::Run => Ok((Segment::Run(pixels, s[at + 2]), after)),
+            SegmentCode::Copy => {
+                let colours = &s[at + 2..at + 2 + pixels];
+                Ok((Segment::Copy(colours), after))
+            }
+        }
+    }
+}
+
+// 001's codes of rows.
+#[derive(Clone, Copy)]
+enum RowCode {
+    Data,
+    Blank,
+}
+
+impl TryFrom<u8> for RowCode {
+    type Error = Refusal;
+
+    ghost try_from_gives = { Decodes row_code bad_row };
+
+    fn try_from(code: u8) -> Result<RowCode, Refusal> {
+        match code {
+            4 => Ok(RowCode::Data),
+            9 => Ok(RowCode::Blank),
+            _ => Err(Refusal::BadRow),
+        }
+    }
+}
+
+// A row's head: so many rows of background; or a row with data up to a place.
 #[derive(Clone, Copy)]
 pub enum RowHead {
-    Bad,
     Blank(usize),
     Data(usize),
 }
 
-// The codes. specs/Frames.antt has them as `clear_code` and so on.
-impl Segment {
-    pub const CLEAR: u8 = 1;
-
-    pub const RUN: u8 = 2;
-
-    pub const COPY: u8 = 3;
-}
-
-impl RowHead {
-    pub const DATA: u8 = 4;
-    // of the marker after the rows; its second byte is zero
-    pub const END: u8 = 5;
-
-    pub const BLANK: u8 = 9;
-}
-
-// The bytes of a segment, code and count included; 0 of another code.
-fn segment_bytes(code: u8, count: usize) -> usize
-    requires { count ≤ 255 }
-    ensures { result ≡ segment_bytes code count }
+// The head of a row at s[at], behind so many rows of a frame; or 18.
+pub fn row_at(frame: &Frame, done: usize, at: usize) -> Result<RowHead, Refusal>
+    requires done_le_height { done ≤ frame.now.height }
+    requires at_in_bounds { at ≤ length frame.now.s.now }
+    ensures { row_head_result result ≡ row_head_says (row_at frame.now.s.now (frame.now.height - done) at) }
 {
-    if code == Segment::CLEAR {
-        return 2;
-    }
-    if code == Segment::RUN {
-        return 4;
-    }
-    if code == Segment::COPY {
-        return 2 + count + count % 2;
-    }
-    0
-}
-
-// The segment at s[at], in a row that ends at `end` and has room for so many pixels more.
-pub fn segment_at(s: &[u8], end: usize, room: usize, at: usize) -> Segment
-    requires at_le_end { at ≤ end }
-    requires end_in_bounds { end ≤ length s.now }
-    ensures { segment_says result ≡ segment_says (segment_at s.now end room at) }
-{
-    if end - at < 2 {
-        return Segment::Bad;
-    }
-    let count = bytes::byte(s, at + 1);
-    let size = segment_bytes(s[at], count);
-    if size == 0 {
-        return Segment::Bad;
-    }
-    if end - at < size {
-        return Segment::Bad;
-    }
-    if room < count {
-        return Segment::Bad;
-    }
-    Segment::Pixels(count, at + size)
-}
-
-// The head of a row at s[at], where so many rows remain.
-pub fn row_at(s: &[u8], room: usize, at: usize) -> RowHead
-    requires { at ≤ length s.now }
-    ensures { row_head_says result ≡ row_head_says (row_at s.now room at) }
-{
+    let s = frame.s;
     if s.len() - at < 2 {
-        return RowHead::Bad;
+        return Err(Refusal::BadRow);
     }
-    let code = s[at];
-    let count = bytes::byte(s, at + 1);
-    if code == RowHead::BLANK {
-        if room < count {
-            return RowHead::Bad;
-        }
-        return RowHead::Blank(count);
+    let room = usize::from(frame.height) - done;
+    let count = usize::from(s[at + 1]);
+    match RowCode::try_from(s[at])? {
+        RowCode::Blank if count <= room => Ok(RowHead::Blank(count)),
+        RowCode::Data if 4 <= count && count <= s.len() - at => Ok(RowHead::Data(at + count)),
+        _ => Err(Refusal::BadRow),
     }
-    if code == RowHead::DATA {
-        if count < 4 {
-            return RowHead::Bad;
-        }
-        if s.len() - at < count {
-            return RowHead::Bad;
-        }
-        return RowHead::Data(at + count);
-    }
-    RowHead::Bad
 }

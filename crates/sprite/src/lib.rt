@@ -8,24 +8,11 @@ mod files;
 mod heads;
 mod paint;
 
-ghost use Rattle.std.specs.Prelude.{◌≡◌, eqb};
-ghost use Rattle.spec.specs.Sizes.{pixels, fault};
+ghost use Rattle.std.specs.Prelude.{◌≡◌};
 ghost use Rattle.sprite.specs.Symbols.{paint_symbol};
 
+use paint::Position;
 use spec::{Answer, Size};
-
-// 1, or 2 for a picture of so many bytes, or 0.
-fn picture_fault(size: Size, bytes: usize) -> u8
-    ensures { result ≡ fault size (eqb bytes (pixels size)) }
-{
-    if sizes::is_allowed(size) {
-        if bytes == size.width * size.height {
-            return Answer::OK;
-        }
-        return Answer::BAD_LENGTH;
-    }
-    Answer::BAD_SIZE
-}
 
 // Paints a frame of a sprite file on a picture, its upper left pixel at column `left` and row `top`, which may lie off the picture.
 // A refusal leaves the picture as it was.
@@ -40,21 +27,14 @@ pub fn paint_symbol(
     ensures value { result ≡ (paint_symbol size picture.old file.now frame left top).answer }
     ensures picture_after { picture.new ≡ (paint_symbol size picture.old file.now frame left top).picture }
 {
-    let fault = picture_fault(size, picture.len());
-    if fault != Answer::OK {
-        return Answer {
-            number: fault,
-            place: 0,
-            block: 0,
-        };
+    if let Err(why) = sizes::check_picture(size, picture.len()) {
+        return Answer::from(why);
     }
-    let number = check::check(file, frame);
-    if number == Answer::OK {
-        paint::paint(size, file, frame, left, top, picture);
-    }
-    Answer {
-        number,
-        place: 0,
-        block: 0,
+    match check::check(file, frame) {
+        Err(why) => Answer::from(why),
+        Ok(found) => {
+            Position::new(size, left, top).paint(&found, picture);
+            Answer::accepted(0, 0)
+        }
     }
 }

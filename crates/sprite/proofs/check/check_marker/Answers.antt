@@ -1,28 +1,22 @@
-use Prim.Native.Nat.{◌+◌, ◌≤◌, ◌<◌}
-use native.Mathlib.Omega.{arith}
-use lib.ListN.{length}
-use borrow.Author.Tests.{le-leb, ne_eqb}
-use Rattle.spec.specs.Basics.{if}
-use Rattle.spec.proofs.Cases.{cases}
-use Rattle.sprite.specs.Frames.{marker}
+use Prim.Native.Nat.{◌-◌}
+use mathlib.Core.List.{[], ◌∷◌}
+use lib.ListN.{length, take, drop}
+use mathlib.Core.Path.{sym, ◌∙◌}
+use mathlib.Core.Bool.{true≢false}
+use Rattle.std.proofs.lemmas.List.{take_rest}
+use Rattle.std.proofs.lemmas.Bool.Decides.{Decides-eqb}
+use Rattle.std.proofs.lemmas.Slice.Eq.{starts_is}
+use Rattle.sprite.specs.Frames.{end_code}
+use Rattle.sprite.proofs.RowHeads.{marker-ends, marker-else}
 use Rattle.sprite.proofs.check.check_marker.Goals as goal
 
-pub returns-then-s-at-lt2 : goal.returns-then-s-at-lt2
-unfolding marker if
-returns-then-s-at-lt2 c = let h : length c.args.s.now < c.args.at + 2 = omega arith in
-    search cases
-
-pub returns-then-s-at-ne-END : goal.returns-then-s-at-ne-END
-unfolding marker if
-returns-then-s-at-ne-END c = let h : c.args.at + 2 ≤ length c.args.s.now = omega arith in
-    rw (le-leb _ _ h, ne_eqb _ _ c.if-s-at-ne-END.true)
-
-pub returns-then-s-at-ne0 : goal.returns-then-s-at-ne0
-unfolding marker if
-returns-then-s-at-ne0 c = let h : c.args.at + 2 ≤ length c.args.s.now = omega arith in
-    rw (le-leb _ _ h, c.if-s-at-ne-END.false, ne_eqb _ _ c.if-s-at-ne0.true)
+pub returns-then-starts_with : goal.returns-then-starts_with
+returns-then-starts_with c =
+    let starts = starts_is Decides-eqb (take (length c.args.s.now - c.args.at) (drop c.args.at c.args.s.now)) (end_code ∷ 0 ∷ []) _ c.starts_with.ensures.value in
+    sym (marker-ends c.args.s.now c.args.at _ (sym (take_rest c.args.s.now c.args.at) ∙ starts.0 c.if-starts_with.true))
 
 pub returns : goal.returns
-unfolding marker if
-returns c = let h : c.args.at + 2 ≤ length c.args.s.now = omega arith in
-    rw (le-leb _ _ h, c.if-s-at-ne-END.false, c.if-s-at-ne0.false)
+returns c =
+    let starts = starts_is Decides-eqb (take (length c.args.s.now - c.args.at) (drop c.args.at c.args.s.now)) (end_code ∷ 0 ∷ []) _ c.starts_with.ensures.value in
+    sym (marker-else c.args.s.now c.args.at (λ rest e.
+    true≢false (sym (starts.1 rest (take_rest c.args.s.now c.args.at ∙ e)) ∙ c.if-starts_with.false)))

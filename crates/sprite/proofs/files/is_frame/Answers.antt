@@ -6,10 +6,10 @@ pub returns-then-s-at : goal.returns-then-s-at
 unfolding is_frame
 returns-then-s-at c = search cases
 
-pub returns-then-word-ne0 : goal.returns-then-word-ne0
+pub returns-then-word-eq0 : goal.returns-then-word-eq0
 unfolding is_frame
-returns-then-word-ne0 c = rw (← c.word.ensures.value) (search cases)
+returns-then-word-eq0 c = rw (← c.word.ensures, ← c.word-then-word-eq0.ensures) (search cases)
 
-pub returns : goal.returns
+pub returns-else-word-eq0 : goal.returns-else-word-eq0
 unfolding is_frame
-returns c = rw (← c.word.ensures.value, ← c.word-2.ensures.value) (search cases)
+returns-else-word-eq0 c = rw (← c.word.ensures) (search cases)

@@ -8,12 +8,12 @@ returns-then-s-lt-HEAD_BYTES c = search cases
 
 pub returns-then-version-lt-FIRST_VERSION : goal.returns-then-version-lt-FIRST_VERSION
 unfolding is_sprite
-returns-then-version-lt-FIRST_VERSION c = rw (← c.long-version.ensures.value) (search cases)
+returns-then-version-lt-FIRST_VERSION c = rw (← c.long-version.ensures) (search cases)
 
 pub returns-then-version-gt-LAST_VERSION : goal.returns-then-version-gt-LAST_VERSION
 unfolding is_sprite
-returns-then-version-gt-LAST_VERSION c = rw (← c.long-version.ensures.value) (search cases)
+returns-then-version-gt-LAST_VERSION c = rw (← c.long-version.ensures) (search cases)
 
 pub returns : goal.returns
 unfolding is_sprite
-returns c = rw (← c.long-version.ensures.value, ← c.long.ensures.value) (search cases)
+returns c = rw (← c.long-version.ensures, ← c.long.ensures) (search cases)
