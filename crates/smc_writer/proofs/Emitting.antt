@@ -1,7 +1,6 @@
 -- The whole chunk: its first four bytes over its opcodes, and the ways out of a write. Assumes nothing.
-use Prim.Native.Nat.{ℕ, ◌+◌, ◌-◌, ◌*◌, ◌/◌, ◌%◌, ◌<◌, ◌≤◌}
-use mathlib.Core.Path.{◌≡◌, refl, sym, ap, ◌∙◌}
-use mathlib.Core.Logic.{◌≢◌}
+use Prim.Native.Nat.{ℕ, ◌+◌, ◌-◌, ◌*◌, ◌<◌, ◌≤◌}
+use mathlib.Core.Path.{◌≡◌, sym, ap, ◌∙◌}
 use mathlib.Core.Bool.{Bool, true, ◌&&◌}
 use mathlib.Core.List.{List, [], ◌∷◌, ◌++◌}
 use native.Mathlib.Nat.{div-one}
@@ -30,7 +29,7 @@ use Rattle.smc_writer.specs.declared.changes.Changes.{Changes}
 use Rattle.smc_writer.specs.Changes.{blocks_of, origins_of}
 use Rattle.smc_writer.specs.Kept.{origins, Flagged}
 use Rattle.smc_writer.specs.Put.{over}
-use Rattle.smc_writer.proofs.Placing.{length_over, lent, length-lent}
+use Rattle.smc_writer.proofs.Placing.{lent, length-lent}
 use Rattle.smc_writer.proofs.Flagging.{origins-differ}
 use Rattle.smc_writer.proofs.Progress.{opcodes-few}
 

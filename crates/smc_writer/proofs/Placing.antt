@@ -1,9 +1,9 @@
 -- Bytes over the front of what was there, or from a place on: one more, several more, and a part that is lent. Assumes nothing.
-use Prim.Native.Nat.{ℕ, suc, ◌+◌, ◌-◌, ◌*◌, ◌^◌, ◌<◌, ◌≤◌}
+use Prim.Native.Nat.{ℕ, suc, ◌+◌, ◌-◌, ◌*◌, ◌<◌, ◌≤◌}
 use mathlib.Core.Path.{◌≡◌, refl, sym, ap, ◌∙◌}
 use mathlib.Core.List.{List, [], ◌∷◌, ◌++◌, map, append_assoc, append-nil}
 use native.Mathlib.Omega.{arith}
-use lib.ListN.{length, get_or, take, drop, set, length-append, length-drop, length-take, drop_of_length-le, take-append-drop}
+use lib.ListN.{length, get_or, take, drop, set, length-append, length-drop, length-take, drop_of_length-le}
 use lib.Seq.{drop-cons, set_at, take_at, take_all, drop_at, drop-drop, length-take-le}
 use borrow.Author.Tests.{le-leb, lt-leb}
 use borrow.Rule.Slice.PartMut.{put_mid}
@@ -12,7 +12,7 @@ use Rattle.spec.specs.Flags.{flag_bytes}
 use Rattle.spec.specs.Writing.{counting, onto, entry_of, tabled}
 use Rattle.smc_writer.specs.Put.{over}
 
-pub length-onto : (bs o : List ℕ) → length bs ≤ length o → length (onto bs o) ≡ length o
+length-onto : (bs o : List ℕ) → length bs ≤ length o → length (onto bs o) ≡ length o
 length-onto bs o h = length-append bs (drop (length bs) o) ∙ rw (length-drop (length bs) o) (omega arith)
 
 -- one byte more

@@ -24,7 +24,7 @@ use Rattle.smc_writer.proofs.Running.{ran}
 use Rattle.smc_writer.proofs.Placing.{length_over, over-onto, lent, length-lent}
 
 -- a run has at most 17 bytes, and a chunk at most 17 for each block
-pub bytes_most : (c n : ℕ) (kept : List Bool) (new : List ℕ) (k : ℕ) → length (bytes_at c n kept new k) ≤ 17
+bytes_most : (c n : ℕ) (kept : List Bool) (new : List ℕ) (k : ℕ) → length (bytes_at c n kept new k) ≤ 17
 unfolding bytes_at
 bytes_most c n kept new k = opcode-most (origin_at c kept new k) block (run_at c n kept new k)
   where
@@ -62,11 +62,11 @@ pub record Progress (c n : ℕ) (kept : List Bool) (new : List ℕ) (at k : ℕ)
   pub within : k ≤ n
   pub so_far : done ++ opcodes 0 (drop k (origins c n kept new)) ≡ opcodes 0 (origins c n kept new)
 
-pub progress-none : (c n : ℕ) (kept : List Bool) (new : List ℕ) → Progress c n kept new 0 0
+progress-none : (c n : ℕ) (kept : List Bool) (new : List ℕ) → Progress c n kept new 0 0
 progress-none c n kept new = record { done = []; size = refl; within = omega arith; so_far = refl }
 
 module _ {c n : ℕ} {kept : List Bool} {new : List ℕ} {at k : ℕ} (p : Progress c n kept new at k) where
-  pub progress-all : n ≤ k → p.done ≡ opcodes 0 (origins c n kept new)
+  progress-all : n ≤ k → p.done ≡ opcodes 0 (origins c n kept new)
   unfolding opcodes
   progress-all h = rw (origins-end c n kept new k h, append-nil p.done) at p.so_far
 
@@ -84,7 +84,7 @@ module _ {c n : ℕ} {kept : List Bool} {new : List ℕ} {at k : ℕ} (p : Progr
         let z = p.size in
         omega arith
 
-    pub progress-on : {m size : ℕ} → m ≡ run_at c n kept new k → size ≡ length (bytes_at c n kept new k) → Progress c n kept new (at + size) (k + m)
+    progress-on : {m size : ℕ} → m ≡ run_at c n kept new k → size ≡ length (bytes_at c n kept new k) → Progress c n kept new (at + size) (k + m)
     progress-on {m} {size} em es =
         let r = ran c n kept new k h in
         record {

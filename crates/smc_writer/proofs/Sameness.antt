@@ -77,10 +77,6 @@ unfolding pixels row_of
 length-pixels x = refl
 
 -- the pixels, row by row
-pub row-bytes : (w : ℕ) → to_le_bytes w32 w ≡ row_of w
-unfolding row_of
-row-bytes w = refl
-
 pub rows-put : (x : Rows) {a b c d : List ℕ} → a ≡ to_le_bytes w32 x.a → b ≡ to_le_bytes w32 x.b → c ≡ to_le_bytes w32 x.c → d ≡ to_le_bytes w32 x.d
     → put_mid 12 4 (put_mid 8 4 (put_mid 4 4 (a ++ replicate 12 0) b) c) d ≡ pixels x
 unfolding pixels row_of

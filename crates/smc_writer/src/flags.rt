@@ -14,7 +14,7 @@ fn entry_of(list: &[u8], colour: u8) -> u16
     ensures value { result ≡ under list.now colour }
     ensures upper_bound { result ≤ length list.now }
 {
-    list.iter().filter(|entry| **entry < colour).count() as u16
+    list.iter().map(|entry| u16::from(*entry < colour)).sum()
 }
 
 // The entries of the four pixels from px[at] on as one number, the first pixel highest.

@@ -1,10 +1,7 @@
-use mathlib.Core.Path.{◌≡◌, ap, ◌∙◌}
+use mathlib.Core.Path.{ap, ◌∙◌}
 use mathlib.Core.Bool.{not}
 use native.Mathlib.Omega.{arith}
 use borrow.Author.Rules.{rules}
-use Rattle.spec.specs.Basics.{same}
-use Rattle.spec.specs.Pictures.{block_at}
-use Rattle.blocks.specs.Blocks.{pixels}
 use Rattle.smc_writer.proofs.Running.{ends-past, ends-skip, ends-kept, ends-apart}
 use Rattle.smc_writer.proofs.Sameness.{same_rows}
 use Rattle.smc_writer.proofs.changes.Changes.ends_at.Goals as goal

@@ -1,4 +1,4 @@
-use mathlib.Core.Path.{sym, refl, ◌∙◌}
+use mathlib.Core.Path.{refl}
 use native.Mathlib.Omega.{arith}
 use Rattle.spec.proofs.Written.{length-encode}
 use Rattle.smc_writer.specs.Changes.{origins_of}
