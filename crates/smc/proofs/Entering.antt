@@ -1,5 +1,5 @@
 -- An opcode with a table, by the entry that it stores or names: one law for both. Assumes nothing.
-use Rattle.std.proofs.Common.{◌≡◌, ℕ, suc, ◌+◌, ◌-◌, ◌*◌, ◌<◌, ◌≤◌, true, eqb, ◌≢◌, List, length, get_or, take, drop, sym, refl, ap, ◌∙◌, one-mul, arith, pow_pos, eqb-true}
+use Rattle.std.proofs.Common.{◌≡◌, ℕ, zero, suc, ◌+◌, ◌-◌, ◌*◌, ◌<◌, ◌≤◌, true, eqb, ◌≢◌, List, length, get_or, take, drop, sym, refl, ap, ◌∙◌, one-mul, arith, pow_pos, eqb-true}
 use native.Mathlib.Decide.{ℕ_discrete}
 use lib.Seq.{length-sets}
 use Rattle.spec.specs.Basics.{part}
@@ -10,14 +10,11 @@ use Rattle.spec.proofs.Parts.{length_part, part-sets}
 use Rattle.smc_check.specs.declared.heads.Lead.{Lead}
 use Rattle.smc_check.specs.Heads.{Leads}
 use Rattle.smc.specs.Runs.{puts, marks}
+use Rattle.smc.specs.Storing.{Stores}
 use Rattle.smc.specs.Tables.{colours, size, Entered}
 use Rattle.smc.specs.Painting.{Room, Tabled}
 use Rattle.smc.proofs.Making.{tabled-store, tabled-named}
 use Rattle.smc.proofs.Opcodes.{kind-of, kind-other, facts-of, facts-other}
-
--- a part, as the code lends it
-pub lent-part : (l : List ℕ) (q w : ℕ) → take (q + w - q) (drop q l) ≡ part l q w
-lent-part l q w = let e : q + w - q ≡ w = omega arith in rw e
 
 -- the table stays as long as it was
 pub entered-length : {w : ℕ} {l : List ℕ} {next : ℕ} {s : List ℕ} {q u v : ℕ} {l' : List ℕ} {e rest next' : ℕ} → Entered w l next s q u v l' e rest next'
@@ -28,23 +25,20 @@ entered-length {w} {l} {next} {s} {q} {u} {v} {l'} en = by (ℕ_discrete u v)
     by (yes h) = ap length (en.stored h).0 ∙ length-sets l (w * next) (part s q w)
     by (no h) = ap length (en.named h).0
 
--- u is the opcode that stores entries of the table of x bits, and the next one names them
-pub record Uses (x u : ℕ) : Type 0 where
-  pub some : x ≢ 0
-  pub most : x < 4
-  pub stores : kind_of u ≡ store x
-  pub names : kind_of (suc u) ≡ named x
+-- the code's numbers are those of a table of x bits
+pub entered-as : (x : ℕ) {w v u : ℕ} {l : List ℕ} {next : ℕ} {s : List ℕ} {q p : ℕ} {l' : List ℕ} {e rest next' : ℕ} → w ≡ colours x → v ≡ u
+    → Entered w l next s q p v l' e rest next' → Entered (colours x) l next s q p u l' e rest next'
+entered-as x ew ev en = rw (← ew, ← ev) en
 
-pub pairs : Uses 1 8
-pairs = record { some = λ e. omega arith; most = omega arith; stores = refl; names = refl }
+-- an entry has eight colours at most
+pub few-colours : {x u : ℕ} → Stores x u → colours x ≤ 8
+few-colours {x = zero} t = omega arith
+few-colours {x = suc zero} t = omega arith
+few-colours {x = suc (suc zero)} t = omega arith
+few-colours {x = suc (suc (suc zero))} t = omega arith
+few-colours {x = suc (suc (suc (suc x)))} t = absurd (omega (arith, t.most))
 
-pub quads : Uses 2 10
-quads = record { some = λ e. omega arith; most = omega arith; stores = refl; names = refl }
-
-pub octets : Uses 3 12
-octets = record { some = λ e. omega arith; most = omega arith; stores = refl; names = refl }
-
-module _ {x u : ℕ} (table : Uses x u) (c r : ℕ) {s : List ℕ} {at k : ℕ} {lead : Lead} (g : Room (c * r) s at k) (el : Leads s at lead)
+module _ {x u : ℕ} (table : Stores x u) (c r : ℕ) {s : List ℕ} {at k : ℕ} {lead : Lead} (g : Room (c * r) s at k) (el : Leads s at lead)
     (h : (u ≤ upper_at s at) × (upper_at s at < u + 2)) where
   pub entry_whole : lead.upper ≡ u → lead.body + colours x ≤ length s
   entry_whole e = omega (arith, rw table.stores at (facts-of g el e).inside)
