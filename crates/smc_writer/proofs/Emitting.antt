@@ -1,74 +1,68 @@
 -- The whole chunk: its first four bytes over its opcodes, and the ways out of a write. Assumes nothing.
-use Prim.Native.Nat.{ℕ, ◌+◌, ◌-◌, ◌*◌, ◌/◌, ◌%◌, ◌<◌, ◌≤◌}
-use mathlib.Core.Path.{◌≡◌, refl, sym, ap, ◌∙◌}
-use mathlib.Core.Logic.{◌≢◌}
-use mathlib.Core.Bool.{true, ◌&&◌}
-use mathlib.Core.List.{List, [], ◌∷◌}
+use Prim.Native.Nat.{ℕ, ◌+◌, ◌-◌, ◌*◌, ◌<◌, ◌≤◌}
+use mathlib.Core.Path.{◌≡◌, sym, ap, ◌∙◌}
+use mathlib.Core.Bool.{Bool, true, ◌&&◌}
+use mathlib.Core.List.{List, [], ◌∷◌, ◌++◌}
 use native.Mathlib.Nat.{div-one}
 use native.Mathlib.Omega.{arith}
 use lib.Dec.{eqb}
 use lib.ListN.{length, set, take, drop}
+use Rattle.std.proofs.Common.{w32}
+use Rattle.std.specs.Int.{to_be_bytes}
 use borrow.Rule.Slice.PartMut.{put_mid}
 use borrow.Author.Tests.{lt-ltb, le-ltb}
 use Rattle.spec.specs.declared.Size.{Size}
+use Rattle.spec.specs.declared.Refusal.{Refusal}
 use Rattle.spec.specs.Basics.{if}
-use Rattle.spec.specs.Answers.{ok, output_short, answer_at, answer}
+use Rattle.spec.specs.Answers.{ok, output_short, answer_at, answer, refusal_number}
 use Rattle.spec.specs.Sizes.{allowed, pixels, columns, lines, fault}
 use Rattle.spec.specs.Pictures.{Origin}
 use Rattle.spec.specs.Flags.{digits}
 use Rattle.spec.specs.Writing.{opcodes, encode, max_length, onto, wrote, emit, differences, write}
 use Rattle.spec.proofs.Lists.{checked-none, checked_refused}
-use Rattle.spec.proofs.Limits.{no-fault-lengths}
+use Rattle.spec.proofs.Refusals.{refused-not-ok}
+use Rattle.spec.proofs.Limits.{no-fault-lengths, area as area-pixels}
 use Rattle.spec.proofs.Written.{length-encode}
-use Rattle.blocks.specs.Blocks.{Canvas}
-use Rattle.blocks.proofs.Rowwise.{canvas}
+use Rattle.blocks.specs.declared.grid.Grid.{Grid}
+use Rattle.blocks.specs.Blocks.{area}
+use Rattle.smc_writer.specs.declared.changes.Changes.{Changes}
+use Rattle.smc_writer.specs.Changes.{blocks_of, origins_of}
 use Rattle.smc_writer.specs.Kept.{origins, Flagged}
 use Rattle.smc_writer.specs.Put.{over}
-use Rattle.smc_writer.proofs.Placing.{length_over, lent, length-lent}
+use Rattle.smc_writer.proofs.Placing.{lent, length-lent}
 use Rattle.smc_writer.proofs.Flagging.{origins-differ}
 use Rattle.smc_writer.proofs.Progress.{opcodes-few}
 
--- four bytes in front of what was written behind them
-head-put : (a b c d : ℕ) (ops o : List ℕ) → 4 ≤ length o
-    → set (set (set (set (over 4 ops o) 0 a) 1 b) 2 c) 3 d ≡ onto (a ∷ b ∷ c ∷ d ∷ ops) o
+-- a first byte and three more in front of what was written behind them
+head-put : (v : ℕ) {bs : List ℕ} (ops o : List ℕ) {x y z : ℕ} → bs ≡ x ∷ y ∷ z ∷ [] → 4 ≤ length o
+    → put_mid 1 3 (set (over 4 ops o) 0 v) bs ≡ onto (v ∷ bs ++ ops) o
 unfolding over
-head-put a b c d ops [] h = absurd (omega arith)
-head-put a b c d ops (w ∷ []) h = absurd (omega arith)
-head-put a b c d ops (w ∷ x ∷ []) h = absurd (omega arith)
-head-put a b c d ops (w ∷ x ∷ y ∷ []) h = absurd (omega arith)
-head-put a b c d ops (w ∷ x ∷ y ∷ z ∷ o) h = refl
+head-put v ops [] e h = absurd (omega arith)
+head-put v ops (a ∷ []) e h = absurd (omega arith)
+head-put v ops (a ∷ b ∷ []) e h = absurd (omega arith)
+head-put v ops (a ∷ b ∷ c ∷ []) e h = absurd (omega arith)
+head-put v ops (a ∷ b ∷ c ∷ d ∷ o) e h = rw e
 
-three-bytes : (x : ℕ) → digits 8 3 x ≡ x / 65536 % 256 ∷ x / 256 % 256 ∷ x % 256 ∷ []
+three-bytes : (x : ℕ) → drop 1 (to_be_bytes w32 x) ≡ digits 8 3 x
 unfolding digits
 three-bytes x = rw div-one
 
-encode-bytes : (os : List Origin) → let n = 4 + length (opcodes 0 os) in encode os ≡ 0xE1 ∷ n / 65536 % 256 ∷ n / 256 % 256 ∷ n % 256 ∷ opcodes 0 os
-unfolding encode
-encode-bytes os = rw (three-bytes (4 + length (opcodes 0 os)))
-
--- where there is room for the chunk: four bytes, the rest lent for its opcodes, and all of it together
-module _ (os : List Origin) (o : List ℕ) (room : length (encode os) ≤ length o) where
-  pub four-fit : 4 ≤ length o
-  four-fit = omega (arith, length-encode os)
-
+-- where there is room for the chunk: four bytes, and behind them its opcodes
+module _ (os : List Origin) (o : List ℕ) (room : 4 + length (opcodes 0 os) ≤ length o) where
   pub opcodes-fit : length (opcodes 0 os) ≤ length (take (length o - 4) (drop 4 o))
-  opcodes-fit = rw (length-lent o 4 four-fit) (omega (arith, length-encode os))
+  opcodes-fit = rw (length-lent o 4 (omega arith)) (omega arith)
 
-  module _ (mid : List ℕ) (written : mid ≡ onto (opcodes 0 os) (take (length o - 4) (drop 4 o))) where
-    behind : put_mid 4 (length o - 4) o mid ≡ over 4 (opcodes 0 os) o
-    behind = lent o 4 four-fit (opcodes 0 os) mid written
-
-    pub length-behind : length (put_mid 4 (length o - 4) o mid) ≡ length o
-    length-behind = ap length behind ∙ length_over 4 (opcodes 0 os) o (omega (arith, length-encode os))
-
-    pub chunk-put : (n : ℕ) → n ≡ length (opcodes 0 os)
-        → (4 + n ≡ length (encode os))
-        × (set (set (set (set (put_mid 4 (length o - 4) o mid) 0 0xE1) 1 ((4 + n) / 65536 % 256)) 2 ((4 + n) / 256 % 256)) 3 ((4 + n) % 256) ≡ onto (encode os) o)
-    chunk-put n en = (omega (arith, length-encode os), rw (behind, en, encode-bytes os) (head-put _ _ _ _ (opcodes 0 os) o four-fit))
+  pub chunk-put : {mid : List ℕ} → mid ≡ onto (opcodes 0 os) (take (length o - 4) (drop 4 o)) → {n : ℕ} → n ≡ length (opcodes 0 os)
+      → {bs : List ℕ} → bs ≡ drop 1 (to_be_bytes w32 (4 + n)) → put_mid 1 3 (set (put_mid 4 (length o - 4) o mid) 0 0xE1) bs ≡ onto (encode os) o
+  unfolding encode
+  chunk-put {mid} em {n} en {bs} eb =
+      ap (λ (l : List ℕ). put_mid 1 3 (set l 0 0xE1) bs) (lent o 4 (omega arith) (opcodes 0 os) mid em)
+      ∙ head-put 0xE1 (opcodes 0 os) o eb (omega arith)
+      ∙ ap (λ (l : List ℕ). onto (0xE1 ∷ l ++ opcodes 0 os) o) (eb ∙ three-bytes (4 + n) ∙ ap (λ (i : ℕ). digits 8 3 (4 + i)) en)
 
 -- how long it can be
-pub origins-most : (c n : ℕ) (kept new : List ℕ) → length (encode (origins c n kept new)) ≤ max_length n
-origins-most c n kept new = omega (arith, length-encode (origins c n kept new), opcodes-few c n kept new)
+pub origins-most : (s : Changes) → length (encode (origins_of s)) ≤ max_length (blocks_of s)
+origins-most s = omega (arith, length-encode (origins_of s), opcodes-few s.grid.columns (blocks_of s) s.kept.now s.new.now)
 
 -- 14, or the chunk
 module _ (n : ℕ) (bytes o : List ℕ) where
@@ -81,24 +75,31 @@ module _ (n : ℕ) (bytes o : List ℕ) where
   emit-fits h used eu l el = rw (le-ltb (length o) (length bytes) h, eu, el)
 
 -- 1 and 2; or what is emitted
-module _ (z : Size) (old new o : List ℕ) (e : ℕ) (q : e ≡ fault z (eqb (length old) (pixels z) && eqb (length new) (pixels z))) where
-  pub write-refused : e ≢ ok → write z old new o ≡ wrote (answer e 0) o
+module _ (z : Size) (old new o : List ℕ) where
+  abbrev fault_of : ℕ
+  fault_of = fault z (eqb (length old) (pixels z) && eqb (length new) (pixels z))
+
+  pub write-refused : (why : Refusal) → refusal_number why ≡ fault_of → write z old new o ≡ wrote (answer (refusal_number why) 0) o
   unfolding write
-  write-refused h = checked_refused _ _ _ (λ w. h (q ∙ w)) ∙ ap (λ (n : ℕ). wrote (answer n 0) o) (sym q)
+  write-refused why q =
+      checked_refused _ _ _ (λ w. refused-not-ok why (q ∙ w)) ∙ ap (λ (n : ℕ). wrote (answer n 0) o) (sym q)
 
-  module _ (h : e ≡ ok) where
+  module _ (q : ok ≡ fault_of) where
     sound : (allowed z ≡ true) × ((length old ≡ pixels z) × (length new ≡ pixels z))
-    sound = no-fault-lengths z (length old) (length new) (pixels z) (pixels z) (sym q ∙ h)
+    sound = no-fault-lengths z (length old) (length new) (pixels z) (pixels z) (sym q)
 
-    pub old-canvas : Canvas (columns z) (lines z) old
-    old-canvas = canvas z sound.0 old sound.1.0
+    pub size-allowed : allowed z ≡ true
+    size-allowed = sound.0
 
-    pub new-canvas : Canvas (columns z) (lines z) new
-    new-canvas = canvas z sound.0 new sound.1.1
+    module _ (g : Grid) (ec : g.columns ≡ columns z) (el : g.lines ≡ lines z) where
+      pub old-exact : length old ≡ area g.columns g.lines
+      old-exact = rw (ec, el) (sound.1.0 ∙ sym (area-pixels z size-allowed))
 
-    pub write-emits : (kept : List ℕ) → Flagged (columns z) (columns z * lines z) old new kept
-        → write z old new o ≡ emit (columns z * lines z) (encode (origins (columns z) (columns z * lines z) kept new)) o
-    unfolding write differences
-    write-emits kept f =
-        checked-none _ _ _ (sym q ∙ h)
-        ∙ ap (λ (os : List Origin). emit (columns z * lines z) (encode os) o) (sym (origins-differ (columns z) (columns z * lines z) kept new old f))
+      pub new-exact : length new ≡ area g.columns g.lines
+      new-exact = rw (ec, el) (sound.1.1 ∙ sym (area-pixels z size-allowed))
+
+      pub write-emits : (kept : List Bool) → Flagged g.columns (g.columns * g.lines) old new kept
+          → emit (g.columns * g.lines) (encode (origins g.columns (g.columns * g.lines) kept new)) o ≡ write z old new o
+      unfolding write differences
+      write-emits kept f =
+          rw (origins-differ g.columns (g.columns * g.lines) kept new old f, ec, el) (sym (checked-none _ _ _ (sym q)))

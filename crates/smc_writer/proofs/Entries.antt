@@ -1,49 +1,37 @@
 -- A pixel's entry among those that rise is how many of them are below it. Assumes nothing.
 use Prim.Native.Nat.{ℕ, suc, ◌+◌, ◌-◌, ◌^◌, ◌<◌, ◌≤◌}
-use mathlib.Core.Path.{◌≡◌, refl, ap}
+use mathlib.Core.Bool.{cond}
+use mathlib.Core.Path.{◌≡◌, refl, ap, ◌∙◌}
 use mathlib.Core.List.{List, ◌∷◌, ◌++◌}
 use native.Mathlib.Nat.{le_trans}
 use native.Mathlib.Omega.{arith}
 use lib.Dec.{ltb}
 use lib.ListN.{length, get_or, replicate}
-use lib.Seq.{slice, slice-cons, slice_empty}
 use borrow.Author.Tests.{lt-ltb, le-ltb, eq-eqb, ne_eqb}
+use Rattle.std.proofs.lemmas.List.Sums.{sum_by-cons}
 use Rattle.spec.specs.Basics.{if, Every, none, also}
 use Rattle.spec.specs.Writing.{colours, entries, entry_of}
-use Rattle.spec.proofs.Lists.{by-test, every-weaken, every_append, every-replicate}
+use Rattle.spec.proofs.Lists.{every-weaken, every_append, every-replicate}
 use Rattle.spec.proofs.Colours.{Has, here, there, has-colours}
 use Rattle.smc_writer.specs.Colours.{Rising, nil, next}
-use Rattle.smc_writer.specs.Flags.{less, under}
+use Rattle.smc_writer.specs.Flags.{under}
 use Rattle.smc_writer.proofs.Rising.{rising-colours}
 
-module _ (x y : ℕ) where
-  less-below : x < y → less x y ≡ 1
-  unfolding less if
-  less-below h = rw (lt-ltb x y h)
+-- one entry more: below the colour, or not
+module _ (p x : ℕ) (xs : List ℕ) where
+  under-cons : under (x ∷ xs) p ≡ cond (ltb x p) 1 0 + under xs p
+  under-cons = sum_by-cons (λ (y : ℕ). cond (ltb y p) 1 0) x xs
 
-  less-not : y ≤ x → less x y ≡ 0
-  unfolding less if
-  less-not h = rw (le-ltb x y h)
+  under-below : x < p → under (x ∷ xs) p ≡ suc (under xs p)
+  under-below h = under-cons ∙ rw (lt-ltb x p h) (omega arith)
 
-  pub less-most : less x y ≤ 1
-  unfolding less
-  less-most = by-test (λ (r : ℕ). r ≤ 1) (ltb x y) (λ t. omega arith) (λ t. omega arith)
-
--- a loop over the first n of a list, from place i on
-module _ (l : List ℕ) (n p : ℕ) where
-  pub under_next : (i : ℕ) → i < n → n ≤ length l → under (slice i n l) p ≡ less (get_or l i 0) p + under (slice (suc i) n l) p
-  unfolding under
-  under_next i h g = rw (slice-cons i n l 0 h g)
-
-  pub under-end : under (slice n n l) p ≡ 0
-  unfolding under
-  under-end = rw (slice_empty n l)
+  under-not : p ≤ x → under (x ∷ xs) p ≡ under xs p
+  under-not h = under-cons ∙ rw (le-ltb x p h) (omega arith)
 
 -- where none is below, and where the colour is among those that rise: those before it are below, and no others
 under_none : (p : ℕ) {l : List ℕ} → Every (λ (x : ℕ). p ≤ x) l → under l p ≡ 0
-unfolding under
 under_none p none = refl
-under_none p (also {x} h e) = rw (less-not x p h, under_none p e)
+under_none p (also {x} {xs} h e) = under-not p x xs h ∙ under_none p e
 
 has_above : {x p : ℕ} {l : List ℕ} → Every (λ (y : ℕ). x < y) l → Has p l → x < p
 has_above {p = p} none x4 = elim x4 [ ]
@@ -51,13 +39,13 @@ has_above (also h e) (here q) = omega arith
 has_above (also h e) (there g) = has_above e g
 
 under-entry : {p : ℕ} {cs : List ℕ} (more : List ℕ) → Every (λ (y : ℕ). p ≤ y) more → Rising cs → Has p cs → under (cs ++ more) p ≡ entry_of (cs ++ more) p
-unfolding under entry_of if
+unfolding entry_of if
 under-entry {p = p} more m nil x5 = elim x5 [ ]
 under-entry {p} more m (next {x} {xs} e r) (here q) =
-    rw (less-not x p (omega arith), eq-eqb x p q, under_none p (every_append (every-weaken (λ (y : ℕ) h. omega arith) e) m))
-under-entry {p} more m (next {x} e r) (there h) =
+    rw (eq-eqb x p q) (under-not p x (xs ++ more) (omega arith) ∙ under_none p (every_append (every-weaken (λ (y : ℕ) h. omega arith) e) m))
+under-entry {p} more m (next {x} {xs} e r) (there h) =
     let l = has_above e h in
-    rw (less-below x p l, ne_eqb x p (omega arith)) (omega (arith, under-entry more m r h))
+    rw (ne_eqb x p (omega arith)) (under-below p x (xs ++ more) l ∙ ap suc (under-entry more m r h))
 
 -- no colour is above the last
 last-past : (x y : ℕ) (l : List ℕ) → get_or (x ∷ y ∷ l) (length (x ∷ y ∷ l) - 1) 0 ≡ get_or (y ∷ l) (length (y ∷ l) - 1) 0

@@ -1,15 +1,12 @@
 -- The flags of kept blocks, one more at a time; and the origins that they stand for. Assumes nothing.
 use Prim.Native.Nat.{ℕ, suc, ◌+◌, ◌<◌, ◌≤◌}
 use mathlib.Core.Path.{◌≡◌, refl, ap, ◌∙◌}
-use mathlib.Core.Logic.{◌≢◌}
 use mathlib.Core.Bool.{Bool, true, false}
 use mathlib.Core.List.{List, [], ◌∷◌, map}
 use native.Mathlib.Decide.{ℕ_discrete}
 use native.Mathlib.Omega.{arith}
-use lib.Dec.{eqb}
 use lib.ListN.{length, get_or, set, drop, length-map, drop_of_length-le}
 use lib.Seq.{drop-cons, get_or-set_same, get_or-set_other}
-use borrow.Author.Tests.{eq-eqb, ne_eqb}
 use Rattle.spec.specs.Basics.{if, from, same}
 use Rattle.spec.specs.Pictures.{Origin, given, held, block_at}
 use Rattle.spec.specs.Writing.{Writable, keeps, gives, difference}
@@ -18,26 +15,26 @@ use Rattle.spec.proofs.Blocks.{length-shown}
 use Rattle.spec.proofs.Written.{writable-rule}
 use Rattle.smc_writer.specs.Kept.{origin_at, origins, Flagged}
 
-pub flagged-more : (c k : ℕ) (old new kept : List ℕ) → k < length kept → Flagged c k old new kept
-    → {v : ℕ} → v ≡ if (same (block_at c old k) (block_at c new k)) 1 0 → Flagged c (k + 1) old new (set kept k v)
+pub flagged-more : (c k : ℕ) (old new : List ℕ) (kept : List Bool) → k < length kept → Flagged c k old new kept
+    → {v : Bool} → v ≡ same (block_at c old k) (block_at c new k) → Flagged c (k + 1) old new (set kept k v)
 flagged-more c k old new kept h f {v} e j l = by (ℕ_discrete j k)
   where
-    by : Dec (j ≡ k) → get_or (set kept k v) j 0 ≡ if (same (block_at c old j) (block_at c new j)) 1 0
-    by (yes q) = rw q (get_or-set_same kept k v 0 h ∙ e)
-    by (no q) = get_or-set_other kept k j v 0 q ∙ f j (omega arith)
+    by : Dec (j ≡ k) → get_or (set kept k v) j false ≡ same (block_at c old j) (block_at c new j)
+    by (yes q) = rw q (get_or-set_same kept k v false h ∙ e)
+    by (no q) = get_or-set_other kept k j v false q ∙ f j (omega arith)
 
 -- an origin by its flag
-module _ (c : ℕ) (kept new : List ℕ) (k : ℕ) where
-  pub origin-kept : get_or kept k 0 ≢ 0 → origin_at c kept new k ≡ held k
+module _ (c : ℕ) (kept : List Bool) (new : List ℕ) (k : ℕ) where
+  pub origin-kept : get_or kept k false ≡ true → origin_at c kept new k ≡ held k
   unfolding origin_at if
-  origin-kept ne = rw (ne_eqb (get_or kept k 0) 0 ne)
+  origin-kept e = rw e
 
-  pub origin-changed : get_or kept k 0 ≡ 0 → origin_at c kept new k ≡ given (block_at c new k)
+  pub origin-changed : get_or kept k false ≡ false → origin_at c kept new k ≡ given (block_at c new k)
   unfolding origin_at if
-  origin-changed e = rw (eq-eqb (get_or kept k 0) 0 e)
+  origin-changed e = rw e
 
 -- the origins of n blocks: from a block on, their number, and that they can be written
-module _ (c n : ℕ) (kept new : List ℕ) where
+module _ (c n : ℕ) (kept : List Bool) (new : List ℕ) where
   pub length-origins : length (origins c n kept new) ≡ n
   unfolding origins
   length-origins = simp (length-map, length_from)
@@ -55,8 +52,8 @@ module _ (c n : ℕ) (kept new : List ℕ) where
   unfolding origins origin_at
   origins-writable = writable-rule (origin_at c kept new) one 0 n
     where
-      one : (k : ℕ) (os : List Origin) → Writable (suc k) os → Writable k (if (eqb (get_or kept k 0) 0) (given (block_at c new k)) (held k) ∷ os)
-      one k os w = by-test (λ (o : Origin). Writable k (o ∷ os)) _ (λ t. gives (length-shown c new (held k)) w) (λ t. keeps w)
+      one : (k : ℕ) (os : List Origin) → Writable (suc k) os → Writable k (if (get_or kept k false) (held k) (given (block_at c new k)) ∷ os)
+      one k os w = by-test (λ (o : Origin). Writable k (o ∷ os)) _ (λ t. keeps w) (λ t. gives (length-shown c new (held k)) w)
 
   -- flagged by the old picture, they are its difference to the new one
   pub origins-differ : (old : List ℕ) → Flagged c n old new kept
@@ -68,5 +65,5 @@ module _ (c n : ℕ) (kept new : List ℕ) where
       one k h = by (same (block_at c old k) (block_at c new k)) refl
         where
           by : (t : Bool) → same (block_at c old k) (block_at c new k) ≡ t → origin_at c kept new k ≡ difference (block_at c old k) (block_at c new k) k
-          by true e = unfold difference if in rw e (origin-kept c kept new k (λ z. let q : get_or kept k 0 ≡ 1 = rw e at (f k h) in omega arith))
-          by false e = unfold difference if in rw e (origin-changed c kept new k (rw e at (f k h)))
+          by true e = unfold difference if in rw e (origin-kept c kept new k (f k h ∙ e))
+          by false e = unfold difference if in rw e (origin-changed c kept new k (f k h ∙ e))

@@ -1,9 +1,9 @@
 -- Bytes over the front of what was there, or from a place on: one more, several more, and a part that is lent. Assumes nothing.
-use Prim.Native.Nat.{ℕ, suc, ◌+◌, ◌-◌, ◌*◌, ◌^◌, ◌<◌, ◌≤◌}
+use Prim.Native.Nat.{ℕ, suc, ◌+◌, ◌-◌, ◌*◌, ◌<◌, ◌≤◌}
 use mathlib.Core.Path.{◌≡◌, refl, sym, ap, ◌∙◌}
 use mathlib.Core.List.{List, [], ◌∷◌, ◌++◌, map, append_assoc, append-nil}
 use native.Mathlib.Omega.{arith}
-use lib.ListN.{length, get_or, take, drop, set, length-append, length-drop, length-take, drop_of_length-le, take-append-drop}
+use lib.ListN.{length, get_or, take, drop, set, length-append, length-drop, length-take, drop_of_length-le}
 use lib.Seq.{drop-cons, set_at, take_at, take_all, drop_at, drop-drop, length-take-le}
 use borrow.Author.Tests.{le-leb, lt-leb}
 use borrow.Rule.Slice.PartMut.{put_mid}
@@ -12,7 +12,7 @@ use Rattle.spec.specs.Flags.{flag_bytes}
 use Rattle.spec.specs.Writing.{counting, onto, entry_of, tabled}
 use Rattle.smc_writer.specs.Put.{over}
 
-pub length-onto : (bs o : List ℕ) → length bs ≤ length o → length (onto bs o) ≡ length o
+length-onto : (bs o : List ℕ) → length bs ≤ length o → length (onto bs o) ≡ length o
 length-onto bs o h = length-append bs (drop (length bs) o) ∙ rw (length-drop (length bs) o) (omega arith)
 
 -- one byte more
@@ -25,19 +25,14 @@ module _ (at : ℕ) (bs o : List ℕ) where
   length_front : at ≤ length o → length (take at o ++ bs) ≡ at + length bs
   length_front h = length-append (take at o) bs ∙ rw (length-take-le at o h)
 
-  pub over-set : (i v : ℕ) → length bs ≡ i → at + i < length o → set (over at bs o) (at + i) v ≡ over at (bs ++ v ∷ []) o
-  unfolding over
-  over-set i v e h =
-      onto-set (take at o ++ bs) o (at + i) v (length_front (omega arith) ∙ rw e) h
-      ∙ ap (λ (l : List ℕ). onto l o) (append_assoc (take at o) bs (v ∷ []))
-
   pub length_over : at + length bs ≤ length o → length (over at bs o) ≡ length o
   unfolding over
   length_over h = length-onto (take at o ++ bs) o (rw (length_front (omega arith)) h)
 
-pub over_none : (at : ℕ) (o : List ℕ) → at ≤ length o → over at [] o ≡ o
+-- a part that is written whole
+pub over_part : (at k : ℕ) (bs o : List ℕ) → at + length bs ≤ length o → k ≡ length bs → {mid : List ℕ} → mid ≡ bs → put_mid at k o mid ≡ over at bs o
 unfolding over
-over_none at o h = rw (append-nil (take at o), length-take-le at o h) (take-append-drop at o)
+over_part at k bs o h e em = rw (em, e, length_front at bs o (omega arith), drop-drop (length bs) at o) (sym (append_assoc (take at o) bs _))
 
 -- several more, behind those that stand there
 pub over-onto : (done bs o : List ℕ) (at : ℕ) → length done ≡ at → over at bs (onto done o) ≡ onto (done ++ bs) o
@@ -78,29 +73,11 @@ module _ (u m : ℕ) where
   counting-long h = rw (lt-leb m 16 h)
 
 -- a block under 8, A or C: an opcode, its colours and its flags, one behind the other
-module _ (bits n : ℕ) (en : n ≡ 2 ^ bits) (list bytes px o : List ℕ) (room : 1 + n + 2 * bits ≤ length o) (enough : n ≤ length list) where
-  table-first : (l : List ℕ) → l ≡ over 1 (take n list) (set o 0 (16 * (6 + 2 * bits))) → l ≡ onto (16 * (6 + 2 * bits) ∷ take n list) o
-  table-first l e = e ∙ over_first (16 * (6 + 2 * bits)) (take n list) o (omega arith)
-
-  pub length-first : (l : List ℕ) → l ≡ over 1 (take n list) (set o 0 (16 * (6 + 2 * bits))) → length l ≡ length o
-  length-first l e =
-      let t = length-take-le n list enough in
-      ap length (table-first l e) ∙ length-onto (16 * (6 + 2 * bits) ∷ take n list) o (omega arith)
-
-  pub length_both : (l m : List ℕ) → l ≡ over 1 (take n list) (set o 0 (16 * (6 + 2 * bits))) → 2 * bits ≤ length bytes
-      → m ≡ over (1 + n) (take (2 * bits) bytes) l → length m ≡ length o
-  length_both l m el h em =
-      let f = length-first l el in
-      let t = length-take-le (2 * bits) bytes h in
-      ap length em ∙ length_over (1 + n) (take (2 * bits) bytes) l (omega arith) ∙ f
-
-  pub table-put : (es : List ℕ) → take (2 ^ bits) list ≡ es → take (2 * bits) bytes ≡ flag_bytes bits (map (entry_of es) px)
-      → (l m : List ℕ) → l ≡ over 1 (take n list) (set o 0 (16 * (6 + 2 * bits))) → m ≡ over (1 + n) (take (2 * bits) bytes) l
-      → m ≡ onto (tabled bits es px) o
-  unfolding tabled
-  table-put es ee ef l m el em =
-      let t = length-take-le n list enough in
-      let first = 16 * (6 + 2 * bits) ∷ take n list in
-      let e : take n list ≡ es = ap (λ (i : ℕ). take i list) en ∙ ee in
-      let q : first ++ take (2 * bits) bytes ≡ tabled bits es px = λ i. 16 * (6 + 2 * bits) ∷ e i ++ ef i in
-      em ∙ ap (over (1 + n) (take (2 * bits) bytes)) (table-first l el) ∙ over-onto first (take (2 * bits) bytes) o (1 + n) (omega arith) ∙ ap (λ (x : List ℕ). onto x o) q
+pub table-put : (b : ℕ) (es px o : List ℕ) {n : ℕ} → n ≡ b → {es' fs : List ℕ} → es' ≡ es → fs ≡ flag_bytes b (map (entry_of es) px)
+    → 1 + length es' + length fs ≤ length o → {l m : List ℕ} → l ≡ over 1 es' (set o 0 (16 * (6 + 2 * n))) → m ≡ over (1 + length es') fs l
+    → m ≡ onto (tabled b es px) o
+unfolding tabled
+table-put b es px o {n} eb {es'} {fs} ee ef room el em =
+    em ∙ ap (over (1 + length es') fs) (el ∙ over_first (16 * (6 + 2 * n)) es' o (omega arith))
+    ∙ over-onto (16 * (6 + 2 * n) ∷ es') fs o (1 + length es') (omega arith)
+    ∙ (λ i. onto (16 * (6 + 2 * eb i) ∷ ee i ++ ef i) o)

@@ -1,5 +1,5 @@
 -- A block's entries by four rows: each row as a number, and the bytes of four such numbers. Assumes nothing.
-use Prim.Native.Nat.{ℕ, zero, suc, ◌+◌, ◌*◌, ◌/◌, ◌%◌, ◌^◌, ◌<◌, ◌≤◌}
+use Prim.Native.Nat.{ℕ, ◌+◌, ◌*◌, ◌/◌, ◌%◌, ◌^◌, ◌<◌, ◌≤◌}
 use mathlib.Core.Path.{◌≡◌, refl, sym, ap, ◌∙◌}
 use mathlib.Core.List.{List, [], ◌∷◌, map}
 use native.Mathlib.Nat.{add-mul, mul_assoc, mul-le-mul, zero-mul, zero-add, add-zero}
@@ -13,6 +13,9 @@ use Rattle.spec.proofs.Lists.{every_take, every_drop, every_map, every-weaken, m
 use Rattle.spec.proofs.Parts.{length_part, part-listed, map-part}
 use Rattle.spec.proofs.Numbers.{digits_number, number-below, number_append}
 use Rattle.spec.proofs.Colours.{has-entries, length-entries, entry-below}
+use Rattle.smc_writer.specs.declared.table.Table.{Table}
+use Rattle.smc_writer.specs.declared.table.Table.TheVariants as Of
+use Rattle.smc_writer.specs.Tables.{bits}
 use Rattle.smc_writer.specs.Flags.{under, packed}
 use Rattle.smc_writer.proofs.Entries.{under-entries}
 
@@ -35,22 +38,17 @@ module _ {n : ℕ} (h : n ≤ 8) where
 
 -- the number of a block's row that starts at an entry, and what it is below
 abbrev row : ℕ → List ℕ → ℕ → ℕ
-row bits is at = number (2 ^ bits) (part is at 4)
-
-pub row-range : (k bits : ℕ) → bits ≡ k → 2 ^ (bits * 4) ≡ 2 ^ (k * 4)
-row-range k bits e = rw e
+row b is at = number (2 ^ b) (part is at 4)
 
 -- the bytes of four rows' numbers are those of the number, or the two numbers, that they make
 module _ (a b c d : ℕ) where
-  pairs-packed : a < 16 → b < 16 → c < 16 → d < 16 → packed 1 a b c d ≡ digits 8 2 (((a * 16 + b) * 16 + c) * 16 + d)
-  unfolding packed if
+  pairs-packed : a < 16 → b < 16 → c < 16 → d < 16 → packed Of.Pairs a b c d ≡ digits 8 2 (((a * 16 + b) * 16 + c) * 16 + d)
   pairs-packed ha hb hc hd =
       let bs = (a * 16 + b) ∷ (c * 16 + d) ∷ [] in
       let e : ((a * 16 + b) * 16 + c) * 16 + d ≡ number 256 bs = omega arith in
       sym (ap (digits 8 2) e ∙ digits_number 8 2 bs refl (also (omega arith) (also (omega arith) none)))
 
-  quads-packed : a < 256 → b < 256 → c < 256 → d < 256 → packed 2 a b c d ≡ digits 8 4 (((a * 256 + b) * 256 + c) * 256 + d)
-  unfolding packed if
+  quads-packed : a < 256 → b < 256 → c < 256 → d < 256 → packed Of.Quads a b c d ≡ digits 8 4 (((a * 256 + b) * 256 + c) * 256 + d)
   quads-packed ha hb hc hd =
       let bs = a ∷ b ∷ c ∷ d ∷ [] in
       let e : ((a * 256 + b) * 256 + c) * 256 + d ≡ number 256 bs = omega arith in
@@ -64,8 +62,8 @@ half-bytes x y hx hy =
     ap (digits 4 6) e ∙ digits_number 4 6 hs refl
     (also (omega arith) (also (omega arith) (also (omega arith) (also (omega arith) (also (omega arith) (also (omega arith) none))))))
 
-octets-packed : (a b c d : ℕ) → a < 4096 → b < 4096 → c < 4096 → d < 4096 → packed 3 a b c d ≡ octet_bytes (a * 4096 + b) (c * 4096 + d)
-unfolding packed if octet_bytes
+octets-packed : (a b c d : ℕ) → a < 4096 → b < 4096 → c < 4096 → d < 4096 → packed Of.Octets a b c d ≡ octet_bytes (a * 4096 + b) (c * 4096 + d)
+unfolding octet_bytes
 octets-packed a b c d ha hb hc hd =
     let byte : (x : ℕ) → x < 4096 → x / 16 ≡ 16 * (x / 256) + x / 16 % 16 = λ x h. omega arith in
     let up : (x : ℕ) → x % 16 * 16 ≡ 16 * (x % 16) = λ x. omega arith in
@@ -98,68 +96,63 @@ module _ (is : List ℕ) (e : length is ≡ 16) where
       ∙ number-row base (drop 8 is) 4 (omega arith)
       ∙ ap (λ (l : List ℕ). number base (part is 8 4) * base ^ 4 + number base (take 4 l)) (drop-drop 4 8 is)
 
-  row_below : (bits : ℕ) → Every (λ (i : ℕ). i < 2 ^ bits) is → (at : ℕ) → at + 4 ≤ 16 → row bits is at < 2 ^ (bits * 4)
-  row_below bits small at h = number-below bits 4 (part is at 4) (length_part is at 4 (omega arith)) (every_take 4 (every_drop at small))
+  row_below : (b : ℕ) → Every (λ (i : ℕ). i < 2 ^ b) is → (at : ℕ) → at + 4 ≤ 16 → row b is at < 2 ^ (b * 4)
+  row_below b small at h = number-below b 4 (part is at 4) (length_part is at 4 (omega arith)) (every_take 4 (every_drop at small))
 
-  rows-packed : (bits : ℕ) → 1 ≤ bits → bits ≤ 3 → Every (λ (i : ℕ). i < 2 ^ bits) is
-      → packed bits (row bits is 0) (row bits is 4) (row bits is 8) (row bits is 12) ≡ flag_bytes bits is
+  rows-packed : (t : Table) → Every (λ (i : ℕ). i < 2 ^ bits t) is
+      → packed t (row (bits t) is 0) (row (bits t) is 4) (row (bits t) is 8) (row (bits t) is 12) ≡ flag_bytes (bits t) is
   unfolding flag_bytes if
-  rows-packed zero some most small = absurd (omega arith)
-  rows-packed (suc zero) some most small =
+  rows-packed Of.Pairs small =
       let below = row_below 1 small in
       pairs-packed _ _ _ _ (below 0 (omega arith)) (below 4 (omega arith)) (below 8 (omega arith)) (below 12 (omega arith))
       ∙ ap (digits 8 2) (sym (number-rows 2))
-  rows-packed (suc (suc zero)) some most small =
+  rows-packed Of.Quads small =
       let below = row_below 2 small in
       quads-packed _ _ _ _ (below 0 (omega arith)) (below 4 (omega arith)) (below 8 (omega arith)) (below 12 (omega arith))
       ∙ ap (digits 8 4) (sym (number-rows 4))
-  rows-packed (suc (suc (suc zero))) some most small =
+  rows-packed Of.Octets small =
       let below = row_below 3 small in
       octets-packed _ _ _ _ (below 0 (omega arith)) (below 4 (omega arith)) (below 8 (omega arith)) (below 12 (omega arith))
       ∙ sym (λ i. octet_bytes (upper-rows 8 i) (lower-rows 8 i))
-  rows-packed (suc (suc (suc (suc n)))) some most small = absurd (omega arith)
 
--- the number of a row by counting, as the code makes it: the first n of a list are the entries
-abbrev counted : List ℕ → ℕ → List ℕ → ℕ → ℕ
-counted list n px at = number n (map (under (take n list)) (part px at 4))
+-- the number of a row by counting, as the code makes it
+abbrev counted : List ℕ → List ℕ → ℕ → ℕ
+counted list px at = number (length list) (map (under list) (part px at 4))
 
 -- a block's entries
-abbrev stored : ℕ → List ℕ → List ℕ
-stored bits px = entries bits (colours px)
+abbrev stored : Table → List ℕ → List ℕ
+stored t px = entries (bits t) (colours px)
 
-unfoldable named_by : ℕ → List ℕ → List ℕ
-named_by bits px = map (entry_of (stored bits px)) px
+unfoldable named_by : Table → List ℕ → List ℕ
+named_by t px = map (entry_of (stored t px)) px
 
--- where the entries stand in front of a list, n of them, the numbers by counting are those of its rows
-module _ (bits : ℕ) (px : List ℕ) (e : length px ≡ 16) where
-  length-named : length (named_by bits px) ≡ 16
+-- the numbers by counting among the entries are those of the block's rows
+module _ (t : Table) (px : List ℕ) (e : length px ≡ 16) (fits : length (colours px) ≤ 2 ^ bits t) where
+  length-named : length (named_by t px) ≡ 16
   unfolding named_by
-  length-named = length-map px (entry_of (stored bits px)) ∙ e
+  length-named = length-map px (entry_of (stored t px)) ∙ e
 
-  small : length (colours px) ≤ 2 ^ bits → Every (λ (i : ℕ). i < 2 ^ bits) (named_by bits px)
+  small : Every (λ (i : ℕ). i < 2 ^ bits t) (named_by t px)
   unfolding named_by
-  small fits =
-      let es = stored bits px in
-      let l = length-entries bits (colours px) fits in
-      every_map (entry_of es) (every-weaken (λ p h. rw l at (entry-below {p = p} {cs = es} h)) (has-entries bits px))
+  small =
+      let es = stored t px in
+      let l = length-entries (bits t) (colours px) fits in
+      every_map (entry_of es) (every-weaken (λ p h. rw l at (entry-below {p = p} {cs = es} h)) (has-entries (bits t) px))
 
-  module _ (list : List ℕ) {n : ℕ} (full : n ≡ 2 ^ bits) (stands : take (2 ^ bits) list ≡ stored bits px) where
-    counted-row : (at : ℕ) → counted list n px at ≡ row bits (named_by bits px) at
+  module _ {list : List ℕ} (stands : list ≡ stored t px) where
+    counted-row : (at : ℕ) → counted list px at ≡ row (bits t) (named_by t px) at
     unfolding named_by
     counted-row at =
-        rw (full, stands)
-        (ap (number (2 ^ bits)) (map-congr (every_take 4 (every_drop at (under-entries bits px))) ∙ map-part (entry_of (stored bits px)) px at 4))
+        rw (stands, length-entries (bits t) (colours px) fits)
+        (ap (number (2 ^ bits t)) (map-congr (every_take 4 (every_drop at (under-entries (bits t) px))) ∙ map-part (entry_of (stored t px)) px at 4))
 
-    module _ (fits : length (colours px) ≤ 2 ^ bits) {a b c d : ℕ} (ea : a ≡ counted list n px 0) (eb : b ≡ counted list n px 4)
-        (ec : c ≡ counted list n px 8) (ed : d ≡ counted list n px 12) where
-      pub counted-below : (a < 2 ^ (bits * 4)) × ((b < 2 ^ (bits * 4)) × ((c < 2 ^ (bits * 4)) × (d < 2 ^ (bits * 4))))
+    module _ {a b c d : ℕ} (ea : a ≡ counted list px 0) (eb : b ≡ counted list px 4) (ec : c ≡ counted list px 8) (ed : d ≡ counted list px 12) where
+      pub counted-below : (a < 2 ^ (bits t * 4)) × ((b < 2 ^ (bits t * 4)) × ((c < 2 ^ (bits t * 4)) × (d < 2 ^ (bits t * 4))))
       counted-below =
-          let below : (at : ℕ) → at + 4 ≤ 16 → counted list n px at < 2 ^ (bits * 4) =
-          λ at h. rw (counted-row at) (row_below (named_by bits px) length-named bits (small fits) at h) in
+          let below : (at : ℕ) → at + 4 ≤ 16 → counted list px at < 2 ^ (bits t * 4) =
+          λ at h. rw (counted-row at) (row_below (named_by t px) length-named (bits t) small at h) in
           (rw ea (below 0 (omega arith)), (rw eb (below 4 (omega arith)), (rw ec (below 8 (omega arith)), rw ed (below 12 (omega arith)))))
 
-      pub counted-packed : 1 ≤ bits → bits ≤ 3 → packed bits a b c d ≡ flag_bytes bits (map (entry_of (stored bits px)) px)
+      pub counted-packed : packed t a b c d ≡ flag_bytes (bits t) (map (entry_of (stored t px)) px)
       unfolding named_by
-      counted-packed some most =
-          rw (ea, eb, ec, ed, counted-row 0, counted-row 4, counted-row 8, counted-row 12)
-          (rows-packed (named_by bits px) length-named bits some most (small fits))
+      counted-packed = rw (ea, eb, ec, ed, counted-row 0, counted-row 4, counted-row 8, counted-row 12) (rows-packed (named_by t px) length-named t small)

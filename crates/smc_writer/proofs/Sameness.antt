@@ -7,6 +7,9 @@ use native.Mathlib.Omega.{arith}
 use lib.Dec.{eqb}
 use lib.ListN.{length, get_or, replicate}
 use borrow.Author.Tests.{eq-eqb, ne_eqb}
+use borrow.Rule.Slice.PartMut.{put_mid}
+use Rattle.std.proofs.Common.{w32}
+use Rattle.std.specs.Int.{to_le_bytes}
 use Rattle.spec.specs.Basics.{if, same}
 use Rattle.spec.specs.Writing.{insert, colours, plain}
 use Rattle.spec.proofs.Lists.{same_lists, same_self}
@@ -55,10 +58,11 @@ pub record Words (x : Rows) : Type 0 where
   pub c : x.c < 2 ^ 32
   pub d : x.d < 2 ^ 32
 
-pub same_rows : (x y : Rows) → Words x → Words y → same (pixels x) (pixels y) ≡ (((eqb x.a y.a && eqb x.b y.b) && eqb x.c y.c) && eqb x.d y.d)
+-- so the test of the four numbers is that of the sixteen pixels
+pub same_rows : (x y : Rows) → Words x → Words y → (eqb x.a y.a && (eqb x.b y.b && (eqb x.c y.c && eqb x.d y.d))) ≡ same (pixels x) (pixels y)
 unfolding pixels
 same_rows x y hx hy =
-    same-append (row_of x.a ++ row_of x.b ++ row_of x.c) (row_of y.a ++ row_of y.b ++ row_of y.c) _ _ (unfold row_of in refl)
+    sym (same-append (row_of x.a ++ row_of x.b ++ row_of x.c) (row_of y.a ++ row_of y.b ++ row_of y.c) _ _ (unfold row_of in refl)
     ∙ rw (
       same-append (row_of x.a ++ row_of x.b) (row_of y.a ++ row_of y.b) (row_of x.c) (row_of y.c) (unfold row_of in refl),
       same-append (row_of x.a) (row_of y.a) (row_of x.b) (row_of y.b) (unfold row_of in refl),
@@ -66,16 +70,17 @@ same_rows x y hx hy =
       row_same x.b y.b hx.b hy.b,
       row_same x.c y.c hx.c hy.c,
       row_same x.d y.d hx.d hy.d,
-    )
+    ) (simp and_assoc))
 
 pub length-pixels : (x : Rows) → length (pixels x) ≡ 16
 unfolding pixels row_of
 length-pixels x = refl
 
--- four rows of one colour
-pub pixels-flat : (w c : ℕ) → row_of w ≡ c ∷ c ∷ c ∷ c ∷ [] → pixels (record { a = w; b = w; c = w; d = w }) ≡ replicate 16 c
-unfolding pixels
-pixels-flat w c e = rw e
+-- the pixels, row by row
+pub rows-put : (x : Rows) {a b c d : List ℕ} → a ≡ to_le_bytes w32 x.a → b ≡ to_le_bytes w32 x.b → c ≡ to_le_bytes w32 x.c → d ≡ to_le_bytes w32 x.d
+    → put_mid 12 4 (put_mid 8 4 (put_mid 4 4 (a ++ replicate 12 0) b) c) d ≡ pixels x
+unfolding pixels row_of
+rows-put x ea eb ec ed = rw (ea, eb, ec, ed)
 
 -- a block is of one colour where it equals sixteen of its first pixel
 one-colour : (n c : ℕ) → colours (replicate (suc n) c) ≡ c ∷ []

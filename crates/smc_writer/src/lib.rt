@@ -3,6 +3,7 @@
 // own functions ask for what the one before them has made sure of; `write_chunk` asks for nothing.
 #![tactic(auto)]
 
+mod changes;
 mod colours;
 mod flags;
 mod kept;
@@ -10,10 +11,13 @@ mod put;
 mod rows;
 mod runs;
 mod single;
+mod table;
 
 ghost use Rattle.std.specs.Prelude.{◌≡◌};
 ghost use Rattle.spec.specs.Writing.{write};
 
+use blocks::Grid;
+use changes::Changes;
 use spec::{Answer, Size};
 
 // Writes the chunk: the answer, and what the output then holds. A refusal leaves it as it was.
@@ -21,17 +25,19 @@ pub fn write_chunk(size: Size, old: &[u8], new: &[u8], out: &mut [u8]) -> Answer
     ensures value { result ≡ (write size old.now new.now out.old).answer }
     ensures out_after { out.new ≡ (write size old.now new.now out.old).output }
 {
-    let number = sizes::pictures_fault(size, old.len(), new.len());
-    if number != Answer::OK {
-        return Answer {
-            number,
-            place: 0,
-            block: 0,
-        };
+    if let Err(why) = sizes::check_pictures(size, old.len(), new.len()) {
+        return Answer::from(why);
     }
-    let columns = size.width / 4;
-    let lines = size.height / 4;
-    let mut kept = [0u8; Size::MAX_BLOCKS];
-    kept::flag_kept(&mut kept, old, new, columns, lines);
-    put::emit(out, &kept, new, columns, lines)
+    let grid = Grid::of(size);
+    let mut kept = [false; Size::MAX_BLOCKS];
+    kept::flag_kept(&mut kept, grid, old, new);
+    let changes = Changes {
+        grid,
+        kept: &kept,
+        new,
+    };
+    match changes.emit(out) {
+        Ok(length) => Answer::accepted(length, grid.blocks()),
+        Err(why) => Answer::from(why),
+    }
 }

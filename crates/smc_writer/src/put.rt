@@ -1,12 +1,12 @@
 // The writer's chunk, run by run. The rest of the output is lent, from the place reached so far, to the writer of one run.
-ghost use Rattle.std.specs.Prelude.{◌≡◌, [], ◌∷◌, ◌++◌, ◌+◌, ◌*◌, ◌≤◌, ◌<◌, leb, length};
+ghost use Rattle.std.specs.Prelude.{◌≡◌, if◌then◌else◌, [], ◌∷◌, ◌++◌, ◌+◌, ◌*◌, ◌≤◌, ◌<◌, leb, length, true};
 ghost use Rattle.spec.specs.Writing.{max_run, counting, opcodes, encode, emit, onto};
-ghost use Rattle.blocks.specs.Blocks.{Canvas};
-ghost use Rattle.smc_writer.specs.Kept.{origins};
-ghost use Rattle.smc_writer.specs.Runs.{run_at, bytes_at};
+ghost use Rattle.smc_writer.specs.Put.{needed, emitted};
+ghost use Rattle.smc_writer.specs.Changes.{blocks_of, origins_of, run_of, bytes_of};
 
-use crate::{rows, runs, single};
-use spec::Answer;
+use crate::changes::Changes;
+use crate::{rows, single};
+use spec::Refusal;
 
 // A chunk's first byte, how many bytes stand before its opcodes, and the most bytes that a block takes.
 const FIRST: u8 = 0xE1;
@@ -53,115 +53,88 @@ fn put_fill(out: &mut [u8], m: usize, colour: u8) -> usize
     at + 1
 }
 
-// The run that begins at block k, at the front of the output.
-fn put_run(out: &mut [u8], kept: &[u8], new: &[u8], c: usize, r: usize, k: usize) -> Run
-    requires canvas { Canvas c r new.now }
-    requires r_in_bounds { c * r ≤ length kept.now }
-    requires k_bound { k < c * r }
-    requires k_in_bounds { length (bytes_at c (c * r) kept.now new.now k) ≤ length out.old }
-    ensures blocks_value { result.blocks ≡ run_at c (c * r) kept.now new.now k }
-    ensures bytes_value { result.bytes ≡ length (bytes_at c (c * r) kept.now new.now k) }
-    ensures out_after { out.new ≡ onto (bytes_at c (c * r) kept.now new.now k) out.old }
+// Where the next run goes, with so many bytes before it: behind them, or at the front.
+fn front(behind: bool, at: usize) -> usize
+    ensures { result ≡ (if behind then at else 0) }
 {
-    let rows = blocks::block_at(new, c, r, k);
-    if kept[k] != 0 {
-        let blocks = runs::run_at(kept, new, c, r, k, rows);
-        let bytes = put_counting(out, 0, blocks);
-        return Run { blocks, bytes };
-    }
-    if rows::is_plain(rows) {
-        let blocks = runs::run_at(kept, new, c, r, k, rows);
-        let bytes = put_fill(out, blocks, rows::first_of(rows));
-        return Run { blocks, bytes };
-    }
-    let px = rows::pixels_of(rows);
-    let bytes = single::put_single(out, &px);
-    Run { blocks: 1, bytes }
+    if behind { at } else { 0 }
 }
 
-// The opcodes of all blocks, at the front of the output.
-fn put_opcodes(out: &mut [u8], kept: &[u8], new: &[u8], c: usize, r: usize) -> usize
-    requires canvas { Canvas c r new.now }
-    requires r_in_bounds { c * r ≤ length kept.now }
-    requires in_bounds { length (opcodes 0 (origins c (c * r) kept.now new.now)) ≤ length out.old }
-    ensures value { result ≡ length (opcodes 0 (origins c (c * r) kept.now new.now)) }
-    ensures out_after { out.new ≡ onto (opcodes 0 (origins c (c * r) kept.now new.now)) out.old }
-{
-    let n = c * r;
-    let mut at = 0;
-    let mut k = 0;
-    while k < n {
-        let run = put_run(&mut out[at..], kept, new, c, r, k);
-        at += run.bytes;
-        k += run.blocks;
+impl Changes<'_> {
+    // The run that begins at block k, at the front of the output.
+    fn put_run(&self, out: &mut [u8], k: usize) -> Run
+        requires k_bound { k < blocks_of self.now }
+        requires room { length (bytes_of self.now k) ≤ length out.old }
+        ensures blocks_value { result.blocks ≡ run_of self.now k }
+        ensures bytes_value { result.bytes ≡ length (bytes_of self.now k) }
+        ensures out_after { out.new ≡ onto (bytes_of self.now k) out.old }
+    {
+        let rows = self.grid.block_at(self.new, k);
+        if self.kept[k] {
+            let blocks = self.run_at(k, rows);
+            let bytes = put_counting(out, 0, blocks);
+            return Run { blocks, bytes };
+        }
+        if rows::is_plain(rows) {
+            let blocks = self.run_at(k, rows);
+            let bytes = put_fill(out, blocks, rows::first_of(rows));
+            return Run { blocks, bytes };
+        }
+        let px = rows::pixels_of(rows);
+        let bytes = single::put_single(out, &px);
+        Run { blocks: 1, bytes }
     }
-    at
-}
 
-// How long the chunk is: each run is written to a place of its own and counted.
-fn measured(kept: &[u8], new: &[u8], c: usize, r: usize) -> usize
-    requires canvas { Canvas c r new.now }
-    requires r_in_bounds { c * r ≤ length kept.now }
-    ensures { result ≡ length (encode (origins c (c * r) kept.now new.now)) }
-{
-    let n = c * r;
-    let mut scratch = [0u8; BLOCK_MOST];
-    let mut total = HEAD;
-    let mut k = 0;
-    while k < n {
-        let run = put_run(&mut scratch, kept, new, c, r, k);
-        total += run.bytes;
-        k += run.blocks;
+    // The opcodes of all blocks: each run behind those before it, or, where they are only counted, each at the front. Says how many bytes.
+    fn put_runs(&self, out: &mut [u8], behind: bool) -> usize
+        requires { needed behind (opcodes 0 (origins_of self.now)) ≤ length out.old }
+        ensures value { result ≡ length (opcodes 0 (origins_of self.now)) }
+        ensures len { length out.new ≡ length out.old }
+        ensures out_after { behind ≡ true → out.new ≡ onto (opcodes 0 (origins_of self.now)) out.old }
+    {
+        let mut at = 0;
+        let mut k = 0;
+        while k < self.grid.blocks() {
+            let place = front(behind, at);
+            let run = self.put_run(&mut out[place..], k);
+            at += run.bytes;
+            k += run.blocks;
+        }
+        at
     }
-    total
-}
 
-// Whether the chunk fits into so much room. Where the longest one would, nothing is measured.
-fn fits(kept: &[u8], new: &[u8], c: usize, r: usize, room: usize) -> bool
-    requires canvas { Canvas c r new.now }
-    requires r_in_bounds { c * r ≤ length kept.now }
-    ensures { result ≡ leb (length (encode (origins c (c * r) kept.now new.now))) room }
-{
-    if HEAD + BLOCK_MOST * (c * r) <= room {
-        return true;
+    // Whether the chunk fits into so much room. Where the longest one would, nothing is counted.
+    fn fits(&self, room: usize) -> bool
+        ensures { result ≡ leb (length (encode (origins_of self.now))) room }
+    {
+        if HEAD + BLOCK_MOST * self.grid.blocks() <= room {
+            return true;
+        }
+        let mut scratch = [0u8; BLOCK_MOST];
+        HEAD + self.put_runs(&mut scratch, false) <= room
     }
-    measured(kept, new, c, r) <= room
-}
 
-// The chunk, at the front of the output. Its length stands before its opcodes and is known after them.
-fn put_chunk(out: &mut [u8], kept: &[u8], new: &[u8], c: usize, r: usize) -> usize
-    requires canvas { Canvas c r new.now }
-    requires r_in_bounds { c * r ≤ length kept.now }
-    requires in_bounds { length (encode (origins c (c * r) kept.now new.now)) ≤ length out.old }
-    ensures value { result ≡ length (encode (origins c (c * r) kept.now new.now)) }
-    ensures out_after { out.new ≡ onto (encode (origins c (c * r) kept.now new.now)) out.old }
-{
-    let length = HEAD + put_opcodes(&mut out[HEAD..], kept, new, c, r);
-    out[0] = FIRST;
-    out[1] = (length / 65536 % 256) as u8;
-    out[2] = (length / 256 % 256) as u8;
-    out[3] = (length % 256) as u8;
-    length
-}
-
-// The chunk where it fits, and 14 where it does not: then nothing has been written.
-pub fn emit(out: &mut [u8], kept: &[u8], new: &[u8], c: usize, r: usize) -> Answer
-    requires canvas { Canvas c r new.now }
-    requires r_in_bounds { c * r ≤ length kept.now }
-    ensures value { result ≡ (emit (c * r) (encode (origins c (c * r) kept.now new.now)) out.old).answer }
-    ensures out_after { out.new ≡ (emit (c * r) (encode (origins c (c * r) kept.now new.now)) out.old).output }
-{
-    if fits(kept, new, c, r, out.len()) {
-        let length = put_chunk(out, kept, new, c, r);
-        return Answer {
-            number: Answer::OK,
-            place: length,
-            block: c * r,
-        };
+    // The chunk, at the front of the output. Its length stands before its opcodes and is known after them.
+    fn put_chunk(&self, out: &mut [u8]) -> usize
+        requires { 4 + length (opcodes 0 (origins_of self.now)) ≤ length out.old }
+        ensures value { result ≡ length (encode (origins_of self.now)) }
+        ensures out_after { out.new ≡ onto (encode (origins_of self.now)) out.old }
+    {
+        let length = HEAD + self.put_runs(&mut out[HEAD..], true);
+        let bytes = (length as u32).to_be_bytes();
+        out[0] = FIRST;
+        out[1..HEAD].copy_from_slice(&bytes[1..]);
+        length
     }
-    Answer {
-        number: Answer::OUTPUT_SHORT,
-        place: 0,
-        block: 0,
+
+    // The chunk where it fits, and its length; where it does not, nothing has been written.
+    pub fn emit(&self, out: &mut [u8]) -> Result<usize, Refusal>
+        ensures value { emitted (blocks_of self.now) result ≡ (emit (blocks_of self.now) (encode (origins_of self.now)) out.old).answer }
+        ensures out_after { out.new ≡ (emit (blocks_of self.now) (encode (origins_of self.now)) out.old).output }
+    {
+        if self.fits(out.len()) {
+            return Ok(self.put_chunk(out));
+        }
+        Err(Refusal::OutputShort)
     }
 }

@@ -1,62 +1,60 @@
 use mathlib.Core.Path.{sym, ap, ◌∙◌}
 use native.Mathlib.Omega.{arith}
 use Rattle.spec.specs.Writing.{Wrote}
-use Rattle.blocks.proofs.Rowwise.{at_most}
-use Rattle.smc_writer.proofs.Emitting.{write-refused, old-canvas, new-canvas, write-emits}
+use Rattle.spec.proofs.Limits.{blocks-most}
+use Rattle.smc_writer.proofs.Emitting.{write-refused, size-allowed, old-exact, new-exact, write-emits}
 use Rattle.smc_writer.proofs.write_chunk.Goals as goal
 
-pub returns-then-number-ne-OK-clause-value : goal.returns-then-number-ne-OK-clause-value
-returns-then-number-ne-OK-clause-value c = let a = c.args in
-    let q = c.pictures_fault-number.ensures in
-    let e = sym (write-refused a.size a.old.now a.new.now a.out.now _ q c.if-number-ne-OK.true) in
-    ap (λ (x : Wrote). x.answer) e
+pub returns-in-Err-clause-value : goal.returns-in-Err-clause-value
+returns-in-Err-clause-value c = let a = c.args in
+    c.from.ensures ∙ sym (ap (λ (x : Wrote). x.answer) (write-refused a.size a.old.now a.new.now a.out.now c.in-Err.why c.in-Err.ensures))
 
-pub returns-then-number-ne-OK-clause-out_after : goal.returns-then-number-ne-OK-clause-out_after
-returns-then-number-ne-OK-clause-out_after c = let a = c.args in
-    let q = c.pictures_fault-number.ensures in
-    let e = sym (write-refused a.size a.old.now a.new.now a.out.now _ q c.if-number-ne-OK.true) in
-    ap (λ (x : Wrote). x.output) e
+pub returns-in-Err-clause-out_after : goal.returns-in-Err-clause-out_after
+returns-in-Err-clause-out_after c = let a = c.args in
+    sym (ap (λ (x : Wrote). x.output) (write-refused a.size a.old.now a.new.now a.out.now c.in-Err.why c.in-Err.ensures))
 
-pub flag_kept-requires-clause-canvas : goal.flag_kept-requires-clause-canvas
-flag_kept-requires-clause-canvas c = let a = c.args in
-    let q = c.pictures_fault-number.ensures in
-    let h = c.if-number-ne-OK.false in
-    old-canvas a.size a.old.now a.new.now a.out.now _ q h
+pub of-grid-requires : goal.of-grid-requires
+of-grid-requires c = let a = c.args in size-allowed a.size a.old.now a.new.now a.out.now c.in_default.ensures
 
-pub flag_kept-requires-clause-canvas_2 : goal.flag_kept-requires-clause-canvas_2
-flag_kept-requires-clause-canvas_2 c = let a = c.args in
-    let q = c.pictures_fault-number.ensures in
-    let h = c.if-number-ne-OK.false in
-    new-canvas a.size a.old.now a.new.now a.out.now _ q h
+pub flag_kept-requires-clause-old_exact : goal.flag_kept-requires-clause-old_exact
+flag_kept-requires-clause-old_exact c = let a = c.args in
+    let e = c.of-grid.ensures in
+    old-exact a.size a.old.now a.new.now a.out.now c.in_default.ensures c.of-grid.result e.columns_value e.lines_value
 
-pub flag_kept-requires-clause-r_in_bounds : goal.flag_kept-requires-clause-r_in_bounds
-flag_kept-requires-clause-r_in_bounds c = let a = c.args in
-    let q = c.pictures_fault-number.ensures in
-    let h = c.if-number-ne-OK.false in
-    at_most _ _ _ (new-canvas a.size a.old.now a.new.now a.out.now _ q h)
+pub flag_kept-requires-clause-new_exact : goal.flag_kept-requires-clause-new_exact
+flag_kept-requires-clause-new_exact c = let a = c.args in
+    let e = c.of-grid.ensures in
+    new-exact a.size a.old.now a.new.now a.out.now c.in_default.ensures c.of-grid.result e.columns_value e.lines_value
 
-pub emit-requires-clause-canvas : goal.emit-requires-clause-canvas
-emit-requires-clause-canvas c = let a = c.args in
-    let q = c.pictures_fault-number.ensures in
-    let h = c.if-number-ne-OK.false in
-    new-canvas a.size a.old.now a.new.now a.out.now _ q h
+pub invariant_of-changes : goal.invariant_of-changes
+invariant_of-changes c = let a = c.args in
+    let e = c.of-grid.ensures in
+    let g = c.of-grid.result in
+    record {
+      exact = new-exact a.size a.old.now a.new.now a.out.now c.in_default.ensures g e.columns_value e.lines_value;
+      enough = omega (arith, blocks-most g.columns g.lines g.narrow g.low);
+    }
 
-pub emit-requires-clause-r_in_bounds : goal.emit-requires-clause-r_in_bounds
-emit-requires-clause-r_in_bounds c = let a = c.args in
-    let q = c.pictures_fault-number.ensures in
-    let h = c.if-number-ne-OK.false in
-    omega (arith, at_most _ _ _ (new-canvas a.size a.old.now a.new.now a.out.now _ q h))
+pub returns-in-Ok-clause-value : goal.returns-in-Ok-clause-value
+returns-in-Ok-clause-value c = let a = c.args in
+    let e = c.of-grid.ensures in
+    let w = write-emits a.size a.old.now a.new.now a.out.now c.in_default.ensures c.of-grid.result e.columns_value e.lines_value _ c.flag_kept.ensures in
+    c.accepted.ensures ∙ rw c.blocks-in-Ok.ensures (c.in-Ok.ensures.value ∙ ap (λ (x : Wrote). x.answer) w)
 
-pub returns-clause-value : goal.returns-clause-value
-returns-clause-value c = let a = c.args in
-    let q = c.pictures_fault-number.ensures in
-    let h = c.if-number-ne-OK.false in
-    let e = write-emits a.size a.old.now a.new.now a.out.now _ q h _ c.flag_kept.ensures in
-    c.emit.ensures.value ∙ sym (ap (λ (x : Wrote). x.answer) e)
+pub returns-in-Ok-clause-out_after : goal.returns-in-Ok-clause-out_after
+returns-in-Ok-clause-out_after c = let a = c.args in
+    let e = c.of-grid.ensures in
+    let w = write-emits a.size a.old.now a.new.now a.out.now c.in_default.ensures c.of-grid.result e.columns_value e.lines_value _ c.flag_kept.ensures in
+    c.emit.ensures.out_after ∙ ap (λ (x : Wrote). x.output) w
 
-pub returns-clause-out_after : goal.returns-clause-out_after
-returns-clause-out_after c = let a = c.args in
-    let q = c.pictures_fault-number.ensures in
-    let h = c.if-number-ne-OK.false in
-    let e = write-emits a.size a.old.now a.new.now a.out.now _ q h _ c.flag_kept.ensures in
-    c.emit.ensures.out_after ∙ sym (ap (λ (x : Wrote). x.output) e)
+pub returns-in-Err-emit-clause-value : goal.returns-in-Err-emit-clause-value
+returns-in-Err-emit-clause-value c = let a = c.args in
+    let e = c.of-grid.ensures in
+    let w = write-emits a.size a.old.now a.new.now a.out.now c.in_default.ensures c.of-grid.result e.columns_value e.lines_value _ c.flag_kept.ensures in
+    c.from-in-Err-emit.ensures ∙ c.in-Err-emit.ensures.value ∙ ap (λ (x : Wrote). x.answer) w
+
+pub returns-in-Err-emit-clause-out_after : goal.returns-in-Err-emit-clause-out_after
+returns-in-Err-emit-clause-out_after c = let a = c.args in
+    let e = c.of-grid.ensures in
+    let w = write-emits a.size a.old.now a.new.now a.out.now c.in_default.ensures c.of-grid.result e.columns_value e.lines_value _ c.flag_kept.ensures in
+    c.emit.ensures.out_after ∙ ap (λ (x : Wrote). x.output) w

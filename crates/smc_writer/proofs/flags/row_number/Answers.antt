@@ -4,15 +4,15 @@ use Rattle.smc_writer.proofs.RowNumbers.{number-four, four-pixels, one-small, tw
 use Rattle.smc_writer.proofs.flags.row_number.Goals as goal
 
 pub overflow_add-result : goal.overflow_add-result
-overflow_add-result c = let h = c.requires.n_bound in
+overflow_add-result c = let h = c.requires.few in
     let low = one-small h c.entry_of-3.ensures.upper_bound in
     let high = two-small h c.entry_of.ensures.upper_bound c.entry_of-2.ensures.upper_bound in
     omega arith
 
 pub returns : goal.returns
-returns c = number-four c.args.n _ _ _ _
+returns c = number-four _ _ _ _ _
     ∙ rw (
-      four-pixels c.args.px.now c.args.at c.requires.at_in_bounds,
+      four-pixels c.args.px.now c.args.at (omega arith),
       c.entry_of.ensures.value,
       c.entry_of-2.ensures.value,
       c.entry_of-3.ensures.value,

@@ -1,0 +1,46 @@
+// The kinds of table that the colours of a block may stand in, from the smallest on.
+ghost use Rattle.std.specs.Prelude.{◌≡◌, ◌^◌, ◌≤◌};
+ghost use Rattle.smc_writer.specs.Tables.{bits, table_for};
+
+// By how many colours an entry has.
+#[derive(Clone, Copy)]
+pub enum Table {
+    Pairs = 1,
+    Quads,
+    Octets,
+}
+
+impl Table {
+    // The smallest whose entries hold so many colours, if there is one.
+    pub fn holding(colours: usize) -> Option<Self>
+        ensures { result ≡ table_for colours }
+    {
+        match colours {
+            0..=2 => Some(Table::Pairs),
+            3..=4 => Some(Table::Quads),
+            5..=8 => Some(Table::Octets),
+            _ => None,
+        }
+    }
+
+    // How many bits name a pixel's colour.
+    pub fn bits(self) -> usize
+        ensures value { result ≡ bits self }
+        ensures some { 1 ≤ result }
+        ensures most { result ≤ 3 }
+    {
+        self as usize
+    }
+
+    // How many colours an entry has.
+    pub fn size(self) -> usize
+        ensures value { result ≡ 2 ^ bits self }
+        ensures most { result ≤ 8 }
+    {
+        match self {
+            Table::Pairs => 2,
+            Table::Quads => 4,
+            Table::Octets => 8,
+        }
+    }
+}
