@@ -10,12 +10,8 @@ use spec::{Decision, Record, Size};
 use std::io;
 use std::io::{Read, Write};
 
-fn print<W: Write>(out: &mut W, line: Line) -> io::Result<()>
-    requires { line.start ≤ length line.text }
-{
-    let text = line.text;
-    let start = line.start;
-    out.write_all(&text[start..])
+fn print<W: Write>(out: &mut W, line: Line) -> io::Result<()> {
+    out.write_all(line.as_slice())
 }
 
 // A line for each chunk, and the end line: `lines_step` (trust/specs/Lines) is this loop.

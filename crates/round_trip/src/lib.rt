@@ -20,13 +20,8 @@ pub fn write_and_read(
     ensures map_after { map.new ≡ (round_trip size new.now (lent_board picture.old map.old) out.old).board.map }
     ensures out_after { out.new ≡ (round_trip size new.now (lent_board picture.old map.old) out.old).output }
 {
-    let number = sizes::board_fault(size, picture.len(), map.len());
-    if number != Answer::OK {
-        return Answer {
-            number,
-            place: 0,
-            block: 0,
-        };
+    if let Err(why) = sizes::check_board(size, picture.len(), map.len()) {
+        return Answer::from(why);
     }
     let wrote = smc_writer::write_chunk(size, picture, new, out);
     if wrote.number != Answer::OK {
