@@ -101,9 +101,6 @@ module _ (n : ℕ) (s : List ℕ) (at k : ℕ) (filled : List ℕ) where
       → opcode n s at k filled ≡ Chunks.Head.bad (refusal_number why)
   told-bad h why q t = is-bad why (subst (λ (h : Result Run Refusal). Found s at k h (opcode n s at k filled)) q t)
 
-pub few-told : {n : ℕ} {s : List ℕ} {at k : ℕ} {f : List ℕ} {x : Chunks.Head} {u m next : ℕ} → Behind n s at k f → Told n s at k x u m next → get_or f u 0 ≤ at
-few-told {u} g t = g.few u
-
 module _ (n : ℕ) (s : List ℕ) where
   pub begins : 4 ≤ length s → number 256 (part s 1 3) ≡ length s → Behind n s 4 0 (replicate 16 0)
   unfolding decode if
@@ -173,10 +170,6 @@ module _ (n : ℕ) (s : List ℕ) where
     pub accepted-ok : n ≤ k → padding (drop at s) ≡ true → decode n s ≡ accepted g.st.made
     accepted-ok a e = g.same ∙ loop-accepts n s (length s) g.st (omega (arith, g.ks)) (rw (sym g.ats) e)
 
-accepted-verdict : (n : ℕ) (s : List ℕ) (o : Chunks.Outcome) (os : List Origin) (used : ℕ) → o ≡ accepted os → used ≡ length s → length os ≡ n
-    → answer_at ok used n ≡ verdict s o
-accepted-verdict n s o os used e q l = rw (e, q, ← l)
-
 -- what a refusal before the opcodes becomes
 pub err-is : {U : Type 0} (r : Result U Answer) (a : Answer) → IsErr r × IsErrAnd r (λ x. x ≡ a) → r ≡ Err a
 err-is (Ok u) a h = absurd (true≢false (sym h.0))
@@ -214,12 +207,6 @@ module _ {A : Type 0} (T : A → List Origin → Type 0) (n : ℕ) (s : List ℕ
     pub stopped : (a : Answer) → r ≡ Err a → o ≡ refused a
     stopped a e = is-stopped a (subst (λ (r : Result (Used A) Answer). Concludes T n s r o) e c)
 
-    pub verdict-passed : (u : Used A) → r ≡ Ok u → answer_at ok u.length n ≡ verdict s o
-    verdict-passed u e = let p = passed u e in accepted-verdict n s o p.made u.length p.is p.used p.all
-
-    pub verdict-stopped : (a : Answer) → r ≡ Err a → a ≡ verdict s o
-    verdict-stopped a e = rw (stopped a e)
-
 -- what is counted in the end
 pub balanced-refused : (m : List ℕ) (o : Chunks.Outcome) (a : Answer) → o ≡ refused a → (now : ℕ) → Balanced m now o
 balanced-refused m o a e now = rw e nothing
@@ -236,6 +223,3 @@ refused-short n s h = rw (lt-ltb (length s) 4 h)
 pub refused-differs : (n : ℕ) (s : List ℕ) → 4 ≤ length s → (number 256 (part s 1 3) ≡ length s → ⊥) → decode n s ≡ refused (answer length_differs 0)
 unfolding decode if
 refused-differs n s h e = rw (le-ltb (length s) 4 h, ne_eqb (number 256 (part s 1 3)) (length s) e)
-
-pub stated-bytes : (s : List ℕ) → 4 ≤ length s → number 256 (part s 1 3) ≡ (get_or s 1 0 * 256 + get_or s 2 0) * 256 + get_or s 3 0
-stated-bytes s h = rw (part-listed s 1 3 (omega arith)) (omega arith)

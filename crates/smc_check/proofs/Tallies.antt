@@ -49,16 +49,6 @@ use Rattle.spec.proofs.Computed.{at_most}
 use Rattle.spec.proofs.Made.{length-extend}
 use Rattle.spec.proofs.Records.{count-changes, unsettled-most}
 
-pub open_in-none : (m : List ℕ) (a : ℕ) → 0 ≡ open_in m a 0
-unfolding open_in
-open_in-none m a = refl
-
-pub open_in-more : (m : List ℕ) (a w : ℕ) → open_in m a (w + 1) ≡ open_in m a w + is_open (get_or m (a + w) 0)
-unfolding open_in
-open_in-more m a w =
-    let e : w + 1 ≡ suc w = omega arith in
-    rw e
-
 pub open_in-both : (m : List ℕ) (a v w : ℕ) → open_in m a (v + w) ≡ open_in m a v + open_in m (a + v) w
 unfolding open_in
 open_in-both m a v zero = rw add-zero (omega arith)
@@ -617,18 +607,12 @@ module _ (m : List ℕ) (k : ℕ) (t : Running) (g : Tallied m k t) where
       let left = enough m g.made _ _ _ _ _ _ g.tally (rw g.size h) in
       omega (arith, left)
 
-  pub lo-hi : (t.lo ≤ t.hi) × (t.hi ≤ k)
-  lo-hi = (g.tally.begin, rw (← g.size) g.tally.past)
-
 -- the same while entries are owed
 module _ (m : List ℕ) (k w : ℕ) (t : Running) (g : Owing m k w t) where
   pub owing-least : open_in m t.lo (t.hi - t.lo) + open_in m k w ≤ t.now
   owing-least =
       let left = enough m g.made _ _ _ _ _ _ g.tally g.most in
       omega (arith, left)
-
-  pub owing-lo-hi : (t.lo ≤ t.hi) × (t.hi ≤ length m)
-  owing-lo-hi = let past = g.tally.past in let most = g.most in (g.tally.begin, omega (arith, past, most))
 
   pub owing-few : w ≤ 1 → w * is_open (get_or m k 0) ≤ t.now
   owing-few h = let e = owed-few m k w h in omega (arith, e, owing-least)
@@ -708,19 +692,3 @@ pairs_small w x y hx hy =
     let q = product_small (w / 2) y hy in
     let both : w / 2 * (x + y) ≡ w / 2 * x + w / 2 * y = mul-add (w / 2) x y in
     omega (arith, p, q, both)
-
-pub reach-small : (u : ℕ) → u < 15 → reach (kind_of u) ≤ 2
-reach-small = at_most (λ u. reach (kind_of u)) 2 15 refl
-
--- an opcode that reaches back is a copy
-copies-only : {u : ℕ} {x : Kind} → Sort u x → 0 < reach x → (2 ≤ u) × (u < 6)
-copies-only (skips l) h = absurd (omega (arith, h))
-copies-only (repeats l b) h = (l, omega (arith, b))
-copies-only (pairs l b) h = (omega (arith, l), b)
-copies-only (gives l filled) h = absurd (omega (arith, h))
-copies-only (gives l wholly) h = absurd (omega (arith, h))
-copies-only (gives l storing) h = absurd (omega (arith, h))
-copies-only (gives l naming) h = absurd (omega (arith, h))
-
-pub is-copy : (u : ℕ) → u < 15 → 0 < reach (kind_of u) → (2 ≤ u) × (u < 6)
-is-copy u l h = copies-only (sort u l) h
