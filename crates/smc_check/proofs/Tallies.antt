@@ -26,6 +26,8 @@ use Rattle.smc_check.specs.Tallying.{
   bit,
   both,
   is_settled,
+  twice,
+  settled_back,
   left,
   copied,
   touched,
@@ -565,11 +567,10 @@ module _ (m : List ℕ) (u k w : ℕ) (t : Running) (known : u < 15) (some : 1 �
       → Notes m u k w t (record { now = t.now; one = left (touches u); two = second_of t.one (left (touches u)) w; lo = t.lo; hi = t.hi })
   notes-plain z hs s at st size g = by-sort st size g hs s at (sort u known) far even z
 
-pub looked-back : (t : Running) (r : ℕ) → r ≤ if (is_settled t) 2 0 → 0 < r → is_settled t ≡ true
-unfolding if
+pub looked-back : (t : Running) (r : ℕ) → r ≤ settled_back t → 0 < r → is_settled t ≡ true
 looked-back t r h some = by (is_settled t) h
   where
-    by : (b : Bool) → r ≤ if b 2 0 → b ≡ true
+    by : (b : Bool) → r ≤ twice b → b ≡ true
     by true h = refl
     by false h = absurd (omega (arith, h, some))
 
