@@ -1,14 +1,14 @@
 -- The state of the definition behind the numbers of the check loop. Assumes nothing.
-use Prim.Native.Nat.{ℕ, zero, suc, ◌+◌, ◌-◌, ◌*◌, ◌%◌, ◌<◌, ◌≤◌}
+use Prim.Native.Nat.{ℕ, ◌+◌, ◌*◌, ◌<◌, ◌≤◌}
 use mathlib.Core.Path.{◌≡◌, refl, sym, subst, ◌∙◌}
 use mathlib.Core.List.{List, []}
 use mathlib.Core.Bool.{true, false, true≢false}
 use Rattle.std.specs.Prelude.{Result, Ok, Err, IsErr, IsErrAnd}
 use native.Mathlib.Omega.{arith}
-use lib.ListN.{length, get_or, drop, replicate}
+use lib.ListN.{length, drop, replicate}
 use borrow.Author.Tests.{lt-ltb, le-ltb, eq-eqb, ne_eqb}
 use Rattle.spec.specs.Basics.{if, part}
-use Rattle.spec.specs.Answers.{refusal_number, ok, chunk_short, length_differs, blocks_remain, bytes_follow, answer_at, answer}
+use Rattle.spec.specs.Answers.{refusal_number, chunk_short, length_differs, blocks_remain, bytes_follow, answer_at, answer}
 use Rattle.spec.specs.Flags.{number}
 use Rattle.spec.specs.Chunks as Chunks
 use Rattle.spec.specs.Chunks.{
@@ -38,7 +38,6 @@ use Rattle.spec.specs.Chunks.{
 }
 use Rattle.spec.proofs.Loops.{unroll, loop-remains, loop-accepts, loop-follows}
 use Rattle.spec.proofs.Made.{length-extend}
-use Rattle.spec.proofs.Parts.{part-listed}
 use Rattle.spec.proofs.Sound.{Checked, good, checked-head}
 use Rattle.spec.specs.declared.Answer.{Answer}
 use Rattle.spec.specs.declared.Refusal.{Refusal}
@@ -48,7 +47,7 @@ use Rattle.smc_check.specs.declared.check.Used.{Used}
 use Rattle.smc_check.specs.declared.count.Running.{Running}
 use Rattle.smc_check.specs.Checking.{grown, fills_of, Found, bad, runs}
 use Rattle.smc_check.specs.Going.{Made, Advances, Concludes, stops, passes}
-use Rattle.smc_check.specs.Tallying.{StandsAt, Tallied, summed, Balanced, nothing, sums}
+use Rattle.smc_check.specs.Tallying.{StandsAt, summed, Balanced, nothing, sums}
 use Rattle.smc_check.proofs.Tallies.{tally-end}
 use Rattle.smc_check.proofs.Filling.{Counted, counted_start, counted-fills, counted-grown, Few, few-start, few-grown}
 

@@ -5,13 +5,13 @@ use mathlib.Core.List.{List, [], ◌∷◌, ◌++◌, map, map-append}
 use mathlib.Core.Logic.{◌≢◌}
 use mathlib.Core.Bool.{Bool, true, false, not, true≢false}
 use mir.Val.{bool_byte}
-use native.Mathlib.Nat.{mul-add, mul_comm, mul-le-mul, add-zero, zero-add, add-suc, suc-add}
+use native.Mathlib.Nat.{mul-add, add-zero, zero-add, add-suc, suc-add}
 use native.Mathlib.Numerals.{add-one}
 use native.Mathlib.Omega.{arith}
-use lib.Dec.{ltb, eqb}
+use lib.Dec.{eqb}
 use lib.ListN.{length, get_or, take, drop, length-append, length-map, get_or-append}
 use lib.Seq.{get_or-append_seam, get_or-append-add, drop-cons}
-use borrow.Author.Tests.{eq-eqb, ne_eqb, eqb-true, lt-ltb, le-ltb}
+use borrow.Author.Tests.{eq-eqb, eqb-true, lt-ltb, le-ltb}
 use Rattle.spec.specs.Basics.{if, from}
 use Rattle.spec.specs.Pictures.{Origin, given, held}
 use Rattle.spec.specs.Maps.{settled, entry, remap, unsettled, newly_unsettled, newly_settled, recount}
@@ -40,14 +40,12 @@ use Rattle.smc_check.specs.Tallying.{
   Takes,
   Counts,
 }
-use Rattle.smc_check.specs.Going.{Made}
 use Rattle.smc_check.specs.Tables.{touches}
 use Rattle.smc_check.specs.declared.count.Running.{Running}
 use Rattle.smc_check.specs.declared.count.Block.{Block}
 use Rattle.smc_check.specs.declared.count.Block.TheVariants.{Settled, Skipped, Unsettled}
 use Rattle.spec.proofs.Lists.{by-test, none-or-one, length_from, get_d_map, get_or-from}
 use Rattle.spec.proofs.Origins.{length-remap}
-use Rattle.spec.proofs.Computed.{at_most}
 use Rattle.spec.proofs.Made.{length-extend}
 use Rattle.spec.proofs.Records.{count-changes, unsettled-most}
 

@@ -5,7 +5,7 @@ use Rattle.spec.specs.declared.Answer.{Answer}
 use Rattle.spec.specs.Basics.{if}
 use Rattle.spec.specs.Pictures.{Origin, held}
 use Rattle.spec.specs.Maps.{settled, entry, remap, unsettled, newly_unsettled, newly_settled}
-use Rattle.spec.specs.Chunks.{kind_of, State, extend, Outcome, refused, accepted}
+use Rattle.spec.specs.Chunks.{Outcome, refused, accepted}
 use Rattle.smc_check.specs.declared.count.Running.{Running}
 use Rattle.smc_check.specs.declared.count.Block.{Block}
 use Rattle.smc_check.specs.declared.count.Block.TheVariants.{Settled, Skipped, Unsettled}

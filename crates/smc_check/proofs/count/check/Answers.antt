@@ -1,7 +1,4 @@
-use mathlib.Core.Path.{sym, ap, ◌∙◌}
-use lib.ListN.{length}
-use Prim.Native.Nat.{ℕ}
-use mathlib.Core.List.{List}
+use mathlib.Core.Path.{sym, ◌∙◌}
 use Rattle.smc_check.proofs.Tallies.{tally-start}
 use Rattle.smc_check.proofs.Behind.{passed, stopped, balanced-accepted, balanced-refused}
 use Rattle.smc_check.proofs.count.check.Goals as goal
