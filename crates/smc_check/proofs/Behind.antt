@@ -1,14 +1,14 @@
 -- The state of the definition behind the numbers of the check loop. Assumes nothing.
-use Prim.Native.Nat.{ℕ, zero, suc, ◌+◌, ◌-◌, ◌*◌, ◌%◌, ◌<◌, ◌≤◌}
+use Prim.Native.Nat.{ℕ, ◌+◌, ◌*◌, ◌<◌, ◌≤◌}
 use mathlib.Core.Path.{◌≡◌, refl, sym, subst, ◌∙◌}
 use mathlib.Core.List.{List, []}
 use mathlib.Core.Bool.{true, false, true≢false}
 use Rattle.std.specs.Prelude.{Result, Ok, Err, IsErr, IsErrAnd}
 use native.Mathlib.Omega.{arith}
-use lib.ListN.{length, get_or, drop, replicate}
+use lib.ListN.{length, drop, replicate}
 use borrow.Author.Tests.{lt-ltb, le-ltb, eq-eqb, ne_eqb}
 use Rattle.spec.specs.Basics.{if, part}
-use Rattle.spec.specs.Answers.{refusal_number, ok, chunk_short, length_differs, blocks_remain, bytes_follow, answer_at, answer}
+use Rattle.spec.specs.Answers.{refusal_number, chunk_short, length_differs, blocks_remain, bytes_follow, answer_at, answer}
 use Rattle.spec.specs.Flags.{number}
 use Rattle.spec.specs.Chunks as Chunks
 use Rattle.spec.specs.Chunks.{
@@ -38,7 +38,6 @@ use Rattle.spec.specs.Chunks.{
 }
 use Rattle.spec.proofs.Loops.{unroll, loop-remains, loop-accepts, loop-follows}
 use Rattle.spec.proofs.Made.{length-extend}
-use Rattle.spec.proofs.Parts.{part-listed}
 use Rattle.spec.proofs.Sound.{Checked, good, checked-head}
 use Rattle.spec.specs.declared.Answer.{Answer}
 use Rattle.spec.specs.declared.Refusal.{Refusal}
@@ -48,7 +47,7 @@ use Rattle.smc_check.specs.declared.check.Used.{Used}
 use Rattle.smc_check.specs.declared.count.Running.{Running}
 use Rattle.smc_check.specs.Checking.{grown, fills_of, Found, bad, runs}
 use Rattle.smc_check.specs.Going.{Made, Advances, Concludes, stops, passes}
-use Rattle.smc_check.specs.Tallying.{StandsAt, Tallied, summed, Balanced, nothing, sums}
+use Rattle.smc_check.specs.Tallying.{StandsAt, summed, Balanced, nothing, sums}
 use Rattle.smc_check.proofs.Tallies.{tally-end}
 use Rattle.smc_check.proofs.Filling.{Counted, counted_start, counted-fills, counted-grown, Few, few-start, few-grown}
 
@@ -100,9 +99,6 @@ module _ (n : ℕ) (s : List ℕ) (at k : ℕ) (filled : List ℕ) where
   pub told-bad : (h : Result Run Refusal) (why : Refusal) → h ≡ Err why → Found s at k h (opcode n s at k filled)
       → opcode n s at k filled ≡ Chunks.Head.bad (refusal_number why)
   told-bad h why q t = is-bad why (subst (λ (h : Result Run Refusal). Found s at k h (opcode n s at k filled)) q t)
-
-pub few-told : {n : ℕ} {s : List ℕ} {at k : ℕ} {f : List ℕ} {x : Chunks.Head} {u m next : ℕ} → Behind n s at k f → Told n s at k x u m next → get_or f u 0 ≤ at
-few-told {u} g t = g.few u
 
 module _ (n : ℕ) (s : List ℕ) where
   pub begins : 4 ≤ length s → number 256 (part s 1 3) ≡ length s → Behind n s 4 0 (replicate 16 0)
@@ -173,10 +169,6 @@ module _ (n : ℕ) (s : List ℕ) where
     pub accepted-ok : n ≤ k → padding (drop at s) ≡ true → decode n s ≡ accepted g.st.made
     accepted-ok a e = g.same ∙ loop-accepts n s (length s) g.st (omega (arith, g.ks)) (rw (sym g.ats) e)
 
-accepted-verdict : (n : ℕ) (s : List ℕ) (o : Chunks.Outcome) (os : List Origin) (used : ℕ) → o ≡ accepted os → used ≡ length s → length os ≡ n
-    → answer_at ok used n ≡ verdict s o
-accepted-verdict n s o os used e q l = rw (e, q, ← l)
-
 -- what a refusal before the opcodes becomes
 pub err-is : {U : Type 0} (r : Result U Answer) (a : Answer) → IsErr r × IsErrAnd r (λ x. x ≡ a) → r ≡ Err a
 err-is (Ok u) a h = absurd (true≢false (sym h.0))
@@ -214,12 +206,6 @@ module _ {A : Type 0} (T : A → List Origin → Type 0) (n : ℕ) (s : List ℕ
     pub stopped : (a : Answer) → r ≡ Err a → o ≡ refused a
     stopped a e = is-stopped a (subst (λ (r : Result (Used A) Answer). Concludes T n s r o) e c)
 
-    pub verdict-passed : (u : Used A) → r ≡ Ok u → answer_at ok u.length n ≡ verdict s o
-    verdict-passed u e = let p = passed u e in accepted-verdict n s o p.made u.length p.is p.used p.all
-
-    pub verdict-stopped : (a : Answer) → r ≡ Err a → a ≡ verdict s o
-    verdict-stopped a e = rw (stopped a e)
-
 -- what is counted in the end
 pub balanced-refused : (m : List ℕ) (o : Chunks.Outcome) (a : Answer) → o ≡ refused a → (now : ℕ) → Balanced m now o
 balanced-refused m o a e now = rw e nothing
@@ -236,6 +222,3 @@ refused-short n s h = rw (lt-ltb (length s) 4 h)
 pub refused-differs : (n : ℕ) (s : List ℕ) → 4 ≤ length s → (number 256 (part s 1 3) ≡ length s → ⊥) → decode n s ≡ refused (answer length_differs 0)
 unfolding decode if
 refused-differs n s h e = rw (le-ltb (length s) 4 h, ne_eqb (number 256 (part s 1 3)) (length s) e)
-
-pub stated-bytes : (s : List ℕ) → 4 ≤ length s → number 256 (part s 1 3) ≡ (get_or s 1 0 * 256 + get_or s 2 0) * 256 + get_or s 3 0
-stated-bytes s h = rw (part-listed s 1 3 (omega arith)) (omega arith)

@@ -19,10 +19,6 @@ times-small = at_most (λ u. times (kind_of u)) 2 16 refl
 pub times-some : (u : ℕ) → u < 16 → 1 ≤ times (kind_of u)
 times-some u h = let e = at_most (λ u. 1 - times (kind_of u)) 0 16 refl u h in omega (arith, e)
 
-pub span_small : (b : ℕ) → b < 256 → span_of b ≤ 257
-unfolding span_of if
-span_small = at_most span_of 257 256 refl
-
 each_none : (u : ℕ) → u < 16 → counted u ≡ true → each (kind_of u) ≡ 0
 unfolding if
 each_none u h t = rw t at (agree_at (λ u. if (counted u) (each (kind_of u)) 0) (λ u. 0) 16 refl u h)

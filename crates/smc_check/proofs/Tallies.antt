@@ -5,13 +5,13 @@ use mathlib.Core.List.{List, [], ◌∷◌, ◌++◌, map, map-append}
 use mathlib.Core.Logic.{◌≢◌}
 use mathlib.Core.Bool.{Bool, true, false, not, true≢false}
 use mir.Val.{bool_byte}
-use native.Mathlib.Nat.{mul-add, mul_comm, mul-le-mul, add-zero, zero-add, add-suc, suc-add}
+use native.Mathlib.Nat.{mul-add, add-zero, zero-add, add-suc, suc-add}
 use native.Mathlib.Numerals.{add-one}
 use native.Mathlib.Omega.{arith}
-use lib.Dec.{ltb, eqb}
+use lib.Dec.{eqb}
 use lib.ListN.{length, get_or, take, drop, length-append, length-map, get_or-append}
 use lib.Seq.{get_or-append_seam, get_or-append-add, drop-cons}
-use borrow.Author.Tests.{eq-eqb, ne_eqb, eqb-true, lt-ltb, le-ltb}
+use borrow.Author.Tests.{eq-eqb, eqb-true, lt-ltb, le-ltb}
 use Rattle.spec.specs.Basics.{if, from}
 use Rattle.spec.specs.Pictures.{Origin, given, held}
 use Rattle.spec.specs.Maps.{settled, entry, remap, unsettled, newly_unsettled, newly_settled, recount}
@@ -26,6 +26,8 @@ use Rattle.smc_check.specs.Tallying.{
   bit,
   both,
   is_settled,
+  twice,
+  settled_back,
   left,
   copied,
   touched,
@@ -38,26 +40,14 @@ use Rattle.smc_check.specs.Tallying.{
   Takes,
   Counts,
 }
-use Rattle.smc_check.specs.Going.{Made}
 use Rattle.smc_check.specs.Tables.{touches}
 use Rattle.smc_check.specs.declared.count.Running.{Running}
 use Rattle.smc_check.specs.declared.count.Block.{Block}
 use Rattle.smc_check.specs.declared.count.Block.TheVariants.{Settled, Skipped, Unsettled}
 use Rattle.spec.proofs.Lists.{by-test, none-or-one, length_from, get_d_map, get_or-from}
 use Rattle.spec.proofs.Origins.{length-remap}
-use Rattle.spec.proofs.Computed.{at_most}
 use Rattle.spec.proofs.Made.{length-extend}
 use Rattle.spec.proofs.Records.{count-changes, unsettled-most}
-
-pub open_in-none : (m : List ℕ) (a : ℕ) → 0 ≡ open_in m a 0
-unfolding open_in
-open_in-none m a = refl
-
-pub open_in-more : (m : List ℕ) (a w : ℕ) → open_in m a (w + 1) ≡ open_in m a w + is_open (get_or m (a + w) 0)
-unfolding open_in
-open_in-more m a w =
-    let e : w + 1 ≡ suc w = omega arith in
-    rw e
 
 pub open_in-both : (m : List ℕ) (a v w : ℕ) → open_in m a (v + w) ≡ open_in m a v + open_in m (a + v) w
 unfolding open_in
@@ -575,11 +565,10 @@ module _ (m : List ℕ) (u k w : ℕ) (t : Running) (known : u < 15) (some : 1 �
       → Notes m u k w t (record { now = t.now; one = left (touches u); two = second_of t.one (left (touches u)) w; lo = t.lo; hi = t.hi })
   notes-plain z hs s at st size g = by-sort st size g hs s at (sort u known) far even z
 
-pub looked-back : (t : Running) (r : ℕ) → r ≤ if (is_settled t) 2 0 → 0 < r → is_settled t ≡ true
-unfolding if
+pub looked-back : (t : Running) (r : ℕ) → r ≤ settled_back t → 0 < r → is_settled t ≡ true
 looked-back t r h some = by (is_settled t) h
   where
-    by : (b : Bool) → r ≤ if b 2 0 → b ≡ true
+    by : (b : Bool) → r ≤ twice b → b ≡ true
     by true h = refl
     by false h = absurd (omega (arith, h, some))
 
@@ -617,18 +606,12 @@ module _ (m : List ℕ) (k : ℕ) (t : Running) (g : Tallied m k t) where
       let left = enough m g.made _ _ _ _ _ _ g.tally (rw g.size h) in
       omega (arith, left)
 
-  pub lo-hi : (t.lo ≤ t.hi) × (t.hi ≤ k)
-  lo-hi = (g.tally.begin, rw (← g.size) g.tally.past)
-
 -- the same while entries are owed
 module _ (m : List ℕ) (k w : ℕ) (t : Running) (g : Owing m k w t) where
   pub owing-least : open_in m t.lo (t.hi - t.lo) + open_in m k w ≤ t.now
   owing-least =
       let left = enough m g.made _ _ _ _ _ _ g.tally g.most in
       omega (arith, left)
-
-  pub owing-lo-hi : (t.lo ≤ t.hi) × (t.hi ≤ length m)
-  owing-lo-hi = let past = g.tally.past in let most = g.most in (g.tally.begin, omega (arith, past, most))
 
   pub owing-few : w ≤ 1 → w * is_open (get_or m k 0) ≤ t.now
   owing-few h = let e = owed-few m k w h in omega (arith, e, owing-least)
@@ -708,19 +691,3 @@ pairs_small w x y hx hy =
     let q = product_small (w / 2) y hy in
     let both : w / 2 * (x + y) ≡ w / 2 * x + w / 2 * y = mul-add (w / 2) x y in
     omega (arith, p, q, both)
-
-pub reach-small : (u : ℕ) → u < 15 → reach (kind_of u) ≤ 2
-reach-small = at_most (λ u. reach (kind_of u)) 2 15 refl
-
--- an opcode that reaches back is a copy
-copies-only : {u : ℕ} {x : Kind} → Sort u x → 0 < reach x → (2 ≤ u) × (u < 6)
-copies-only (skips l) h = absurd (omega (arith, h))
-copies-only (repeats l b) h = (l, omega (arith, b))
-copies-only (pairs l b) h = (omega (arith, l), b)
-copies-only (gives l filled) h = absurd (omega (arith, h))
-copies-only (gives l wholly) h = absurd (omega (arith, h))
-copies-only (gives l storing) h = absurd (omega (arith, h))
-copies-only (gives l naming) h = absurd (omega (arith, h))
-
-pub is-copy : (u : ℕ) → u < 15 → 0 < reach (kind_of u) → (2 ≤ u) × (u < 6)
-is-copy u l h = copies-only (sort u l) h

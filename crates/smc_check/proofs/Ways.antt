@@ -9,7 +9,7 @@ use native.Mathlib.Decide.{dec_lt}
 use native.Mathlib.Omega.{arith}
 use lib.ListN.{length, get_or}
 use Rattle.spec.specs.Answers.{opcode_cut, opcode_unknown, none_before, past_last_block, entry_empty}
-use Rattle.spec.specs.Chunks.{Head, kind_of, times, reach, once, each, missing, body, upper_at, count_at, body_at, opcode}
+use Rattle.spec.specs.Chunks.{Head, kind_of, times, reach, once, each, missing, body, upper_at, body_at, opcode}
 use Rattle.spec.proofs.Heads.{
   body-none-before,
   body-past,

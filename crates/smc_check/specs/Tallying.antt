@@ -5,7 +5,7 @@ use Rattle.spec.specs.declared.Answer.{Answer}
 use Rattle.spec.specs.Basics.{if}
 use Rattle.spec.specs.Pictures.{Origin, held}
 use Rattle.spec.specs.Maps.{settled, entry, remap, unsettled, newly_unsettled, newly_settled}
-use Rattle.spec.specs.Chunks.{kind_of, State, extend, Outcome, refused, accepted}
+use Rattle.spec.specs.Chunks.{Outcome, refused, accepted}
 use Rattle.smc_check.specs.declared.count.Running.{Running}
 use Rattle.smc_check.specs.declared.count.Block.{Block}
 use Rattle.smc_check.specs.declared.count.Block.TheVariants.{Settled, Skipped, Unsettled}
@@ -97,6 +97,13 @@ both _ _ = false
 
 abbrev pub is_settled : Running → Bool
 is_settled t = both t.one t.two
+
+abbrev pub twice : Bool → ℕ
+twice true = 2
+twice false = 0
+
+abbrev pub settled_back : Running → ℕ
+settled_back t = twice (is_settled t)
 
 unfoldable pub second_of : Block → Block → ℕ → Block
 second_of one code w = if (eqb w 1) one code

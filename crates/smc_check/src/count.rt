@@ -1,11 +1,10 @@
 // The count's change, beside the check: how many entries of blocks that are painted or copied are unsettled, and how many blocks a copy leaves
 // unsettled. It looks at the map while the check waits for its next opcode, and writes nothing.
 ghost use Rattle.std.specs.Prelude.{◌≡◌, ◌+◌, ◌≤◌, ◌<◌, length};
-ghost use Rattle.spec.specs.Basics.{if};
 ghost use Rattle.spec.specs.Sizes.{max_blocks};
 ghost use Rattle.spec.specs.Maps.{unsettled};
 ghost use Rattle.spec.specs.Chunks.{decode, verdict};
-ghost use Rattle.smc_check.specs.Tallying.{bit, opened, left, copied, second_of, is_settled, begun, summed};
+ghost use Rattle.smc_check.specs.Tallying.{bit, opened, left, copied, second_of, is_settled, settled_back, begun, summed};
 ghost use Rattle.smc_check.specs.Tallying.{StandsAt, Tallied, Owing, Notes, Takes, Balanced};
 
 use crate::check;
@@ -112,7 +111,7 @@ impl Running {
 
     // How far back they are: a number, so that one test tells whether an opcode reaches further.
     fn settled_back(self) -> u8
-        ensures { result ≡ if (is_settled self) 2 0 }
+        ensures { result ≡ settled_back self }
     {
         if self.is_settled() { 2 } else { 0 }
     }

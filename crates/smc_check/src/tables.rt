@@ -45,13 +45,25 @@ impl Row {
         touches: true,
     };
 
-    const PAINT_1: Row = Row { once: 1, ..Row::PAINT_0 };
+    const PAINT_1: Row = Row {
+        once: 1,
+        ..Row::PAINT_0
+    };
 
-    const PAINT_2: Row = Row { once: 2, ..Row::PAINT_0 };
+    const PAINT_2: Row = Row {
+        once: 2,
+        ..Row::PAINT_0
+    };
 
-    const PAINT_4: Row = Row { once: 4, ..Row::PAINT_0 };
+    const PAINT_4: Row = Row {
+        once: 4,
+        ..Row::PAINT_0
+    };
 
-    const PAINT_8: Row = Row { once: 8, ..Row::PAINT_0 };
+    const PAINT_8: Row = Row {
+        once: 8,
+        ..Row::PAINT_0
+    };
 }
 
 // 01's table, 0 to E, in order; F is none. An upper half-byte is a number because the table goes by it.

@@ -1,4 +1,4 @@
-use mathlib.Core.Path.{◌∙◌, sym}
+use mathlib.Core.Path.{◌∙◌}
 use native.Mathlib.Omega.{arith}
 use Rattle.smc_check.proofs.Behind.{refused-short, refused-differs}
 use Rattle.smc_check.proofs.check.check_length.Goals as goal

@@ -1,19 +1,10 @@
-use mathlib.Core.Path.{sym, ap, ◌∙◌}
-use lib.ListN.{length}
-use Prim.Native.Nat.{ℕ}
-use mathlib.Core.List.{List}
+use mathlib.Core.Path.{sym, ◌∙◌}
 use Rattle.smc_check.proofs.Tallies.{tally-start}
 use Rattle.smc_check.proofs.Behind.{passed, stopped, balanced-accepted, balanced-refused}
 use Rattle.smc_check.proofs.count.check.Goals as goal
 
 pub check_along-requires-clause-begun : goal.check_along-requires-clause-begun
 check_along-requires-clause-begun c = rw (c.new.ensures.begun, c.new.ensures.same_map) (tally-start c.args.map.now)
-
-pub summed-requires : goal.summed-requires
-summed-requires c = let a = c.args in
-    let p = passed _ a.blocks a.s.now _ _ c.check_along.ensures c.in-Ok.used c.in-Ok.is in
-    let e = p.tally.0 ∙ c.new.ensures.same_map in
-    record { made = p.made; size = p.all ∙ sym (ap (λ (l : List ℕ). length l) e ∙ c.requires.0); tally = p.tally.1 }
 
 pub returns-in-Ok-clause-balanced : goal.returns-in-Ok-clause-balanced
 returns-in-Ok-clause-balanced c = let a = c.args in

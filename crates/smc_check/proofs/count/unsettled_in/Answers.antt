@@ -1,8 +1,7 @@
 use Prim.Native.Nat.{◌+◌}
-use mathlib.Core.Path.{◌≡◌, ap, sym, ◌∙◌}
+use mathlib.Core.Path.{◌≡◌, ◌∙◌}
 use native.Mathlib.Omega.{arith}
-use lib.ListN.{get_or, take}
-use Rattle.spec.specs.Maps.{unsettled}
+use lib.ListN.{get_or}
 use Rattle.smc_check.specs.Tallying.{is_open}
 use Rattle.smc_check.proofs.Tallies.{byte-bit, bit-open, unsettled-more, unsettled-few}
 use Rattle.smc_check.proofs.count.unsettled_in.Goals as goal

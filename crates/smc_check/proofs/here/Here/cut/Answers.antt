@@ -14,10 +14,6 @@ lead_at-lead-requires-clause-at_in_bounds_2 c = let a = c.args.self in
     let e = body-by-bytes a.s.now a.at _ c.from.ensures _ c.count_bytes.ensures in
     omega arith
 
-pub row_of-row-requires : goal.row_of-row-requires
-row_of-row-requires c = let known = ends-known c.requires (c.args.self.bytes _) in
-    omega (arith, known, c.lead_at-lead.ensures.upper)
-
 pub returns-then-self-from : goal.returns-then-self-from
 returns-then-self-from c = let a = c.args.self in
     let el = c.lead_at-lead.ensures in
@@ -58,10 +54,6 @@ is_missing-requires-clause-room c = let a = c.args.self in
     let e = body-by-bytes a.s.now a.at _ c.from.ensures _ c.count_bytes.ensures in
     let o = c.from-4.ensures ∙ c.row_of-row.ensures.once in
     omega (arith, c.lead_at-lead.ensures.body)
-
-pub is_missing-requires-clause-upper_bound : goal.is_missing-requires-clause-upper_bound
-is_missing-requires-clause-upper_bound c = let known = ends-known c.requires (c.args.self.bytes _) in
-    omega (arith, known, c.lead_at-lead.ensures.upper)
 
 pub returns-then-is_missing : goal.returns-then-is_missing
 returns-then-is_missing c = let a = c.args.self in

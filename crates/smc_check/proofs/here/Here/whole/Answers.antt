@@ -19,9 +19,6 @@ use Rattle.smc_check.proofs.here.Here.whole.Goals as goal
 pub lead_at-lead-requires-clause-at_in_bounds_2 : goal.lead_at-lead-requires-clause-at_in_bounds_2
 lead_at-lead-requires-clause-at_in_bounds_2 c = stands-body c.requires (c.args.self.bytes _)
 
-pub row_of-row-requires : goal.row_of-row-requires
-row_of-row-requires c = upper-small c.lead_at-lead.ensures (c.args.self.bytes _)
-
 pub overflow_mul-m : goal.overflow_mul-m
 overflow_mul-m c =
     omega (
@@ -52,9 +49,6 @@ returns-then-self-m c = let el = c.lead_at-lead.ensures in
 pub is_missing-requires-clause-room : goal.is_missing-requires-clause-room
 is_missing-requires-clause-room c = stands-once c.requires (c.args.self.bytes _) c.lead_at-lead.ensures
 
-pub is_missing-requires-clause-upper_bound : goal.is_missing-requires-clause-upper_bound
-is_missing-requires-clause-upper_bound c = upper-small c.lead_at-lead.ensures (c.args.self.bytes _)
-
 pub returns-then-is_missing : goal.returns-then-is_missing
 returns-then-is_missing c = let el = c.lead_at-lead.ensures in
     let byte = c.args.self.bytes c.args.self.at in
@@ -63,13 +57,6 @@ returns-then-is_missing c = let el = c.lead_at-lead.ensures in
     (way-empty _ _ _ _ _ _ el (omega (arith, known, c.if-lead-eq15.false)) (rw el.body (stands-body c.requires byte)) _
     (c.from-2.ensures ∙ c.row_of-row.ensures.reach) (omega arith) _ (c.from.ensures ∙ c.row_of-row.ensures.times) (omega arith)
     (stands-once c.requires byte el) (sym c.is_missing.ensures ∙ c.if-is_missing.true))
-
-pub invariant_of-result-clause-known : goal.invariant_of-result-clause-known
-invariant_of-result-clause-known c = let known = upper-small c.lead_at-lead.ensures (c.args.self.bytes c.args.self.at) in
-    omega (arith, known, c.if-lead-eq15.false)
-
-pub invariant_of-result-clause-reached : goal.invariant_of-result-clause-reached
-invariant_of-result-clause-reached c = let r = c.from-2.ensures ∙ c.row_of-row.ensures.reach in omega (arith, r)
 
 pub invariant_of-result-clause-some : goal.invariant_of-result-clause-some
 invariant_of-result-clause-some c = let el = c.lead_at-lead.ensures in

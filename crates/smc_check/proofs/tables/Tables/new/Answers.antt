@@ -4,7 +4,7 @@ use mathlib.Core.Bool.{not}
 use Rattle.spec.specs.Basics.{if}
 use Rattle.spec.specs.Chunks.{kind_of, times, reach, once}
 use Rattle.spec.proofs.Computed.{test_at, agree_at}
-use Rattle.smc_check.specs.declared.tables.TheConstants.{ROWS, SPANS}
+use Rattle.smc_check.specs.declared.tables.TheConstants.{ROWS}
 use Rattle.smc_check.specs.Tables.{span_of, touches, no_row}
 use Rattle.smc_check.proofs.Filling.{same_test}
 use Rattle.smc_check.proofs.tables.Tables.new.Goals as goal
