@@ -6,7 +6,7 @@ ghost use Rattle.sprite.specs.Held.{row_of, rows_of};
 
 use crate::files::Frame;
 use crate::heads::{Row, RowHead};
-use crate::{files, heads};
+use crate::files;
 use spec::Refusal;
 
 // What follows the rows. specs/Frames.antt has its code as `end_code`.
@@ -45,7 +45,7 @@ fn check_rows(f: &Frame) -> Result<(), Refusal>
     let mut y = 0;
     let mut at = f.first;
     while y < height {
-        match heads::row_at(f, y, at)? {
+        match f.row_at(y, at)? {
             RowHead::Blank(count) => {
                 y += count;
                 at += 2;
