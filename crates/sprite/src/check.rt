@@ -6,7 +6,6 @@ ghost use Rattle.sprite.specs.Held.{row_of, rows_of};
 
 use crate::files::Frame;
 use crate::heads::{Row, RowHead};
-use crate::files;
 use spec::Refusal;
 
 // What follows the rows. specs/Frames.antt has its code as `end_code`.
@@ -71,7 +70,7 @@ pub fn check(s: &[u8], k: usize) -> Result<Frame<'_>, Refusal>
     ensures number { number_of result ≡ (frame s.now k).number }
     ensures accepted { IfOk result (λ f. rows_of f ≡ frame s.now k) }
 {
-    let f = files::frame_at(s, k)?;
+    let f = Frame::find(s, k)?;
     check_rows(&f)?;
     Ok(f)
 }
