@@ -29,14 +29,6 @@ ended zero text = refl
 ended (suc left) text = refl
 
 module _ {n : ℕ} {before : List ℕ} {end at higher : ℕ} {text : List ℕ} (w : Spelling n before end at higher text) where
-  -- a digit is left to be put, so there is room for it
-  pub spelling-room : 0 < higher → 19 ≤ end → 1 ≤ at
-  spelling-room some room = by w.left w.fits w.place
-    where
-      by : (left : ℕ) → higher < 10 ^ left → left + end ≡ at + 19 → 1 ≤ at
-      by zero f p = absurd (omega arith)
-      by (suc left) f p = omega arith
-
   pub spelling-more : {at' : ℕ} {text' : List ℕ} → 0 < higher → 19 ≤ end → at' + 1 ≡ at → text' ≡ (48 + higher % 10) ∷ text
       → Spelling n before end at' (higher / 10) text'
   spelling-more {at'} {text'} some room step e = by w.left w.fits w.place w.text-is

@@ -150,7 +150,8 @@ module _ (z : Size) (left : ℕ) where
         (λ h.
         let t : top ≤ i = omega arith in
         let m : length rows ≤ i - top = omega arith in
-        rw (le-ltb i top t, get_or-append_right rows (replicate n []) (i - top) [] m, get_or-eq_default rows [] m, get_d_default {A = List Shade} [] n (i - top - length rows)))
+        let none = get_d_default {A = List Shade} [] n (i - top - length rows) in
+        rw (le-ltb i top t, get_or-append_right rows (replicate n []) (i - top) [] m, get_or-eq_default rows [] m, none))
 
     pub sheet-blank : (n : ℕ) (pic : List ℕ) → overlay z (sheet left top rows) pic ≡ overlay z (sheet left top (rows ++ replicate n [])) pic
     sheet-blank n pic = overlay-same z (sheet left top rows) (sheet left top (rows ++ replicate n [])) pic (λ p h. blank-at n (p % z.width) (p / z.width))

@@ -18,7 +18,8 @@ use Rattle.spec.proofs.Limits.{by-fault}
 use Rattle.spec.proofs.Fuel.{by-fuel}
 use Rattle.sprite.specs.Files as Files
 use Rattle.sprite.specs.Frames as Frames
-use Rattle.sprite.specs.Frames.{Segment, RowHead, Shade, Reading, reading, Turn, stop, more, Ended, follow, segment_at, segment_turn, row, row_at, row_turn, frame}
+use Rattle.sprite.specs.Frames.{Segment, RowHead}
+use Rattle.sprite.specs.Frames.{Shade, Reading, reading, Turn, stop, more, Ended, follow, segment_at, segment_turn, row, row_at, row_turn, frame}
 use Rattle.sprite.specs.Symbols.{placed, overlay, Painted, painted, SymbolLent, paint_symbol}
 use Rattle.sprite.specs.Examples as Examples
 

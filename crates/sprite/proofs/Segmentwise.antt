@@ -76,7 +76,8 @@ module _ {z : Size} {count left y hd col sn : ℕ} (pic : List ℕ) (low : y < z
       run-painted c n q g =
           let m : n ≡ count = sym (q ∙ length-replicate n (colour c)) in
           let p = length_part pic (y * z.width + col) sn stores-within in
-          rw (g, m, f, p, ← part-replicate count c hd sn seen-among, ← map-replicate colour count c) (rw f at filled (replicate count c) (length-replicate count c))
+          let k = rw f at filled (replicate count c) (length-replicate count c) in
+          rw (g, m, f, p, ← part-replicate count c hd sn seen-among, ← map-replicate colour count c) k
 
       pub copy-painted : (cs : List ℕ) {vs : List ℕ} → count ≡ length (map colour cs) → vs ≡ part cs hd (hd + sn - hd)
           → put_mid (y * z.width + col) w pic vs ≡ painted (map colour cs)

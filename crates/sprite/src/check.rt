@@ -6,7 +6,6 @@ ghost use Rattle.sprite.specs.Held.{row_of, rows_of};
 
 use crate::files::Frame;
 use crate::heads::{Row, RowHead};
-use crate::{files, heads};
 use spec::Refusal;
 
 // What follows the rows. specs/Frames.antt has its code as `end_code`.
@@ -45,7 +44,7 @@ fn check_rows(f: &Frame) -> Result<(), Refusal>
     let mut y = 0;
     let mut at = f.first;
     while y < height {
-        match heads::row_at(f, y, at)? {
+        match f.row_at(y, at)? {
             RowHead::Blank(count) => {
                 y += count;
                 at += 2;
@@ -71,7 +70,7 @@ pub fn check(s: &[u8], k: usize) -> Result<Frame<'_>, Refusal>
     ensures number { number_of result ≡ (frame s.now k).number }
     ensures accepted { IfOk result (λ f. rows_of f ≡ frame s.now k) }
 {
-    let f = files::frame_at(s, k)?;
+    let f = Frame::find(s, k)?;
     check_rows(&f)?;
     Ok(f)
 }

@@ -1,8 +1,6 @@
 // A sprite file's head and offset table, and a frame's head. Here s is the file.
-ghost use Rattle.std.specs.Prelude.{◌≡◌, ◌≤◌, ◌<◌, ◌^◌, length, IfOk};
-ghost use Rattle.spec.specs.Answers.{number_of};
-ghost use Rattle.sprite.specs.Files.{is_sprite, is_frame, frame_fault};
-ghost use Rattle.sprite.specs.Frames.{rows, frame};
+ghost use Rattle.std.specs.Prelude.{◌≡◌, ◌≤◌, ◌<◌, ◌^◌, length};
+ghost use Rattle.sprite.specs.Files.{is_sprite, is_frame};
 
 use crate::bytes;
 use spec::Refusal;
@@ -54,25 +52,34 @@ pub struct Frame<'a> {
     ghost within: { first ≤ length s.now },
 }
 
-// Frame k of a file; or 15, 16 or 17.
-pub fn frame_at(s: &[u8], k: usize) -> Result<Frame<'_>, Refusal>
-    ensures number { number_of result ≡ frame_fault s.now k }
-    ensures found { IfOk result (λ f. rows f.s.now f.height f.width f.first ≡ frame s.now k) }
-{
-    if !is_sprite(s) {
-        return Err(Refusal::BadSprite);
+impl<'a> Frame<'a> {
+    // here, since it names the type
+    ghost use Rattle.std.specs.Prelude.{◌≡◌, IfOk};
+    ghost use Rattle.spec.specs.Answers.{number_of};
+    ghost use Rattle.sprite.specs.Files.{frame_fault};
+    ghost use Rattle.sprite.specs.Frames.{frame};
+    ghost use Rattle.sprite.specs.Held.{rows_of};
+
+    // Frame k of a file; or 15, 16 or 17.
+    pub fn find(s: &'a [u8], k: usize) -> Result<Self, Refusal>
+        ensures number { number_of result ≡ frame_fault s.now k }
+        ensures found { IfOk result (λ f. rows_of f ≡ frame s.now k) }
+    {
+        if !is_sprite(s) {
+            return Err(Refusal::BadSprite);
+        }
+        if bytes::long(s, 4) as usize <= k {
+            return Err(Refusal::NoSuchFrame);
+        }
+        let at = bytes::long(s, HEAD_BYTES + 4 * k) as usize;
+        if !is_frame(s, at) {
+            return Err(Refusal::BadFrame);
+        }
+        Ok(Self {
+            s,
+            height: bytes::word(s, at + 4),
+            width: bytes::word(s, at + 6),
+            first: at + FRAME_BYTES,
+        })
     }
-    if bytes::long(s, 4) as usize <= k {
-        return Err(Refusal::NoSuchFrame);
-    }
-    let at = bytes::long(s, HEAD_BYTES + 4 * k) as usize;
-    if !is_frame(s, at) {
-        return Err(Refusal::BadFrame);
-    }
-    Ok(Frame {
-        s,
-        height: bytes::word(s, at + 4),
-        width: bytes::word(s, at + 6),
-        first: at + FRAME_BYTES,
-    })
 }

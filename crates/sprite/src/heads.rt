@@ -138,21 +138,23 @@ pub enum RowHead {
     Data(usize),
 }
 
-// The head of a row at s[at], behind so many rows of a frame; or 18.
-pub fn row_at(frame: &Frame, done: usize, at: usize) -> Result<RowHead, Refusal>
-    requires done_le_height { done ≤ frame.now.height }
-    requires at_in_bounds { at ≤ length frame.now.s.now }
-    ensures { row_head_result result ≡ row_head_says (row_at frame.now.s.now (frame.now.height - done) at) }
-{
-    let s = frame.s;
-    if s.len() - at < 2 {
-        return Err(Refusal::BadRow);
-    }
-    let room = usize::from(frame.height) - done;
-    let count = usize::from(s[at + 1]);
-    match RowCode::try_from(s[at])? {
-        RowCode::Blank if count <= room => Ok(RowHead::Blank(count)),
-        RowCode::Data if 4 <= count && count <= s.len() - at => Ok(RowHead::Data(at + count)),
-        _ => Err(Refusal::BadRow),
+impl Frame<'_> {
+    // The head of the row at s[at], behind so many rows of the frame; or 18.
+    pub fn row_at(&self, done: usize, at: usize) -> Result<RowHead, Refusal>
+        requires done_le_height { done ≤ self.now.height }
+        requires at_in_bounds { at ≤ length self.now.s.now }
+        ensures { row_head_result result ≡ row_head_says (row_at self.now.s.now (self.now.height - done) at) }
+    {
+        let s = self.s;
+        if s.len() - at < 2 {
+            return Err(Refusal::BadRow);
+        }
+        let room = usize::from(self.height) - done;
+        let count = usize::from(s[at + 1]);
+        match RowCode::try_from(s[at])? {
+            RowCode::Blank if count <= room => Ok(RowHead::Blank(count)),
+            RowCode::Data if 4 <= count && count <= s.len() - at => Ok(RowHead::Data(at + count)),
+            _ => Err(Refusal::BadRow),
+        }
     }
 }

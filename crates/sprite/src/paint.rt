@@ -9,7 +9,6 @@ ghost use Rattle.sprite.specs.Symbols.{placed, overlay};
 ghost use Rattle.sprite.specs.Strips.{origin, from_least, strip, sheet, Clipped};
 
 use crate::files::Frame;
-use crate::heads;
 use crate::heads::{Row, RowHead, Segment};
 use spec::Size;
 
@@ -127,7 +126,7 @@ impl Position {
         let mut done = 0;
         let mut at = f.first;
         while done < height {
-            let Ok(head) = heads::row_at(f, done, at) else {
+            let Ok(head) = f.row_at(done, at) else {
                 return;
             };
             match head {

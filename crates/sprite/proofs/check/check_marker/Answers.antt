@@ -12,11 +12,13 @@ use Rattle.sprite.proofs.check.check_marker.Goals as goal
 
 pub returns-then-starts_with : goal.returns-then-starts_with
 returns-then-starts_with c =
-    let starts = starts_is Decides-eqb (take (length c.args.s.now - c.args.at) (drop c.args.at c.args.s.now)) (end_code ∷ 0 ∷ []) _ c.starts_with.ensures.value in
-    sym (marker-ends c.args.s.now c.args.at _ (sym (take_rest c.args.s.now c.args.at) ∙ starts.0 c.if-starts_with.true))
+    let s = c.args.s.now in
+    let starts = starts_is Decides-eqb (take (length s - c.args.at) (drop c.args.at s)) (end_code ∷ 0 ∷ []) _ c.starts_with.ensures.value in
+    sym (marker-ends s c.args.at _ (sym (take_rest s c.args.at) ∙ starts.0 c.if-starts_with.true))
 
 pub returns : goal.returns
 returns c =
-    let starts = starts_is Decides-eqb (take (length c.args.s.now - c.args.at) (drop c.args.at c.args.s.now)) (end_code ∷ 0 ∷ []) _ c.starts_with.ensures.value in
-    sym (marker-else c.args.s.now c.args.at (λ rest e.
-    true≢false (sym (starts.1 rest (take_rest c.args.s.now c.args.at ∙ e)) ∙ c.if-starts_with.false)))
+    let s = c.args.s.now in
+    let starts = starts_is Decides-eqb (take (length s - c.args.at) (drop c.args.at s)) (end_code ∷ 0 ∷ []) _ c.starts_with.ensures.value in
+    sym (marker-else s c.args.at (λ rest e.
+    true≢false (sym (starts.1 rest (take_rest s c.args.at ∙ e)) ∙ c.if-starts_with.false)))

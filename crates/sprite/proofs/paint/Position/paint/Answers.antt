@@ -38,7 +38,8 @@ invariant_of-r c =
 pub loop-done-preserved : goal.loop-done-preserved
 loop-done-preserved c =
     let l : c.loop-done.done < c.args.f.now.height = omega arith in
-    (_, frame-paints-on c.requires.accepted c.requires.exact c.loop-done.invariant.1 l (data-told c.in-Data.is c.in-Ok.ensures) (rw c.from.ensures at c.paint_line.ensures))
+    let e = rw c.from.ensures at c.paint_line.ensures in
+    (_, frame-paints-on c.requires.accepted c.requires.exact c.loop-done.invariant.1 l (data-told c.in-Data.is c.in-Ok.ensures) e)
 
 pub returns : goal.returns
 returns c =

@@ -25,7 +25,8 @@ loop-next-smaller c =
 pub loop-next-preserved : goal.loop-next-preserved
 loop-next-preserved c =
     let e = rw c.in-Ok.ensures.shows at c.paint_segment.ensures in
-    rw c.count-x.ensures (_, row-paints-on c.args.r.now.within c.requires.exact c.loop-next.invariant.1 c.loop-next-test.true (segment-told _ c.in-Ok.ensures.said) e)
+    let t = segment-told _ c.in-Ok.ensures.said in
+    rw c.count-x.ensures (_, row-paints-on c.args.r.now.within c.requires.exact c.loop-next.invariant.1 c.loop-next-test.true t e)
 
 pub returns : goal.returns
 returns c = row-painted c.args.r.now.within c.requires.exact c.loop-next.invariant.1 c.loop-next-test.false

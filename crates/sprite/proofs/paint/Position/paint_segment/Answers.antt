@@ -9,7 +9,8 @@ use Rattle.sprite.proofs.paint.Position.paint_segment.Goals as goal
 pub returns-then-visible-eq0 : goal.returns-then-visible-eq0
 returns-then-visible-eq0 c =
     let q = c.requires in
-    rw (← c.from.ensures) (unseen-kept c.args.picture.now q.y_lt_height q.exact c.clip-visible.ensures (shown c.args.segment) c.count.ensures c.if-visible-eq0.true)
+    let pic = c.args.picture.now in
+    rw (← c.from.ensures) (unseen-kept pic q.y_lt_height q.exact c.clip-visible.ensures (shown c.args.segment) c.count.ensures c.if-visible-eq0.true)
 
 pub returns-in-Clear : goal.returns-in-Clear
 returns-in-Clear c = rw c.in-Clear.is (strip-clear _ _ _ _ c.args.picture.now c.requires.exact)

@@ -5,7 +5,7 @@ use Rattle.spec.specs.Basics.{if}
 use Rattle.spec.specs.Answers.{ok}
 use Rattle.sprite.specs.Files.{frame_fault}
 use Rattle.sprite.proofs.Heading.{table-whole, head-whole, frame-there}
-use Rattle.sprite.proofs.files.frame_at.Goals as goal
+use Rattle.sprite.proofs.files.Frame.find.Goals as goal
 
 pub returns-then-not-is_sprite-clause-number : goal.returns-then-not-is_sprite-clause-number
 unfolding frame_fault if
