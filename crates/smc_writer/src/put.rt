@@ -1,7 +1,7 @@
 // The writer's chunk, run by run. The rest of the output is lent, from the place reached so far, to the writer of one run.
 ghost use Rattle.std.specs.Prelude.{◌≡◌, if◌then◌else◌, [], ◌∷◌, ◌++◌, ◌+◌, ◌*◌, ◌≤◌, ◌<◌, leb, length, true};
 ghost use Rattle.spec.specs.Writing.{max_run, counting, opcodes, encode, emit, onto};
-ghost use Rattle.smc_writer.specs.Put.{needed, emitted};
+ghost use Rattle.smc_writer.specs.Put.{opcode_of, needed, emitted};
 ghost use Rattle.smc_writer.specs.Changes.{blocks_of, origins_of, run_of, bytes_of};
 
 use crate::changes::Changes;
@@ -22,15 +22,31 @@ pub struct Run {
     pub bytes: usize,
 }
 
+// What a run with a count is of, by the number of its shorter opcode.
+#[derive(Clone, Copy)]
+enum Counted {
+    Kept = 0,
+    Filled = 6,
+}
+
+impl Counted {
+    fn opcode(self) -> u8
+        ensures value { result ≡ opcode_of self }
+        ensures small { result ≤ 6 }
+    {
+        self as u8
+    }
+}
+
 // An opcode with its count, at the front of the output.
-fn put_counting(out: &mut [u8], u: u8, m: usize) -> usize
-    requires u_bound { u < 14 }
+fn put_counting(out: &mut [u8], of: Counted, m: usize) -> usize
     requires le_m { 1 ≤ m }
     requires m_le_max_run { m ≤ max_run }
-    requires m_in_bounds { length (counting u m) ≤ length out.old }
-    ensures value { result ≡ length (counting u m) }
-    ensures out_after { out.new ≡ onto (counting u m) out.old }
+    requires m_in_bounds { length (counting (opcode_of of) m) ≤ length out.old }
+    ensures value { result ≡ length (counting (opcode_of of) m) }
+    ensures out_after { out.new ≡ onto (counting (opcode_of of) m) out.old }
 {
+    let u = of.opcode();
     if m <= 16 {
         out[0] = 16 * u + (m - 1) as u8;
         return 1;
@@ -48,7 +64,7 @@ fn put_fill(out: &mut [u8], m: usize, colour: u8) -> usize
     ensures value { result ≡ length (counting 6 m ++ colour ∷ []) }
     ensures out_after { out.new ≡ onto (counting 6 m ++ colour ∷ []) out.old }
 {
-    let at = put_counting(out, 6, m);
+    let at = put_counting(out, Counted::Filled, m);
     out[at] = colour;
     at + 1
 }
@@ -72,7 +88,7 @@ impl Changes<'_> {
         let rows = self.grid.block_at(self.new, k);
         if self.kept[k] {
             let blocks = self.run_at(k, rows);
-            let bytes = put_counting(out, 0, blocks);
+            let bytes = put_counting(out, Counted::Kept, blocks);
             return Run { blocks, bytes };
         }
         if rows::is_plain(rows) {
