@@ -62,15 +62,30 @@ lent l at h bs mid em =
 pub length-lent : (l : List ℕ) (at : ℕ) → at ≤ length l → length (take (length l - at) (drop at l)) ≡ length l - at
 length-lent l at h = rw (length-take (length l - at) (drop at l), length-drop at l) (omega arith)
 
--- a count, by the test of the code
+-- a count, by the test of the code, where u is the opcode
 module _ (u m : ℕ) where
-  pub counting-short : m ≤ 16 → counting u m ≡ (16 * u + (m - 1)) ∷ []
+  counting-short : m ≤ 16 → counting u m ≡ (16 * u + (m - 1)) ∷ []
   unfolding counting if
   counting-short h = rw (le-leb m 16 h)
 
-  pub counting-long : 16 < m → counting u m ≡ 16 * (u + 1) ∷ (m - 1) ∷ []
+  counting-long : 16 < m → counting u m ≡ 16 * (u + 1) ∷ (m - 1) ∷ []
   unfolding counting if
   counting-long h = rw (lt-leb m 16 h)
+
+  pub length-short : m ≤ 16 → 1 ≡ length (counting u m)
+  length-short h = rw (counting-short h)
+
+  pub length-long : 16 < m → 2 ≡ length (counting u m)
+  length-long h = rw (counting-long h)
+
+  module _ {v : ℕ} (e : v ≡ u) (o : List ℕ) where
+    pub short-put : m ≤ 16 → 0 < length o → set o 0 (16 * v + (m - 1)) ≡ onto (counting u m) o
+    short-put h room = rw (e, counting-short h) (onto-set [] o 0 (16 * u + (m - 1)) refl room)
+
+    pub long-put : 16 < m → 1 < length o → set (set o 0 (16 * (v + 1))) 1 (m - 1) ≡ onto (counting u m) o
+    long-put h room =
+        rw (e, counting-long h)
+        (ap (λ (l : List ℕ). set l 1 (m - 1)) (onto-set [] o 0 (16 * (u + 1)) refl (omega arith)) ∙ onto-set (16 * (u + 1) ∷ []) o 1 (m - 1) refl room)
 
 -- a block under 8, A or C: an opcode, its colours and its flags, one behind the other
 pub table-put : (b : ℕ) (es px o : List ℕ) {n : ℕ} → n ≡ b → {es' fs : List ℕ} → es' ≡ es → fs ≡ flag_bytes b (map (entry_of es) px)

@@ -1,13 +1,20 @@
--- Bytes written into what was there. Assumes nothing.
+-- Bytes written into what was there, and what is said of them. Assumes nothing.
 use Rattle.std.specs.Prelude.{ℕ, Bool, if◌then◌else◌, List, ◌++◌, length, take, Result, Ok, Err}
 use Rattle.spec.specs.declared.Answer.{Answer}
 use Rattle.spec.specs.declared.Refusal.{Refusal}
 use Rattle.spec.specs.Answers.{ok, answer_at, answer, refusal_number}
 use Rattle.spec.specs.Writing.{onto}
+use Rattle.smc_writer.specs.declared.put.Counted.{Counted}
+use Rattle.smc_writer.specs.declared.put.Counted.TheVariants as Of
 
 -- from a place on
 unfoldable pub over : ℕ → List ℕ → List ℕ → List ℕ
 over at bs out = onto (take at out ++ bs) out
+
+-- the opcode of a run with a count
+abbrev pub opcode_of : Counted → ℕ
+opcode_of Of.Kept = 0
+opcode_of Of.Filled = 6
 
 -- the room for runs one behind the other, or for any one of them at a time
 abbrev pub needed : Bool → List ℕ → ℕ

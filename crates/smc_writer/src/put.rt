@@ -1,10 +1,11 @@
 // The writer's chunk, run by run. The rest of the output is lent, from the place reached so far, to the writer of one run.
 ghost use Rattle.std.specs.Prelude.{◌≡◌, if◌then◌else◌, [], ◌∷◌, ◌++◌, ◌+◌, ◌*◌, ◌≤◌, ◌<◌, leb, length, true};
-ghost use Rattle.spec.specs.Writing.{max_run, counting, opcodes, encode, emit, onto};
-ghost use Rattle.smc_writer.specs.Put.{needed, emitted};
+ghost use Rattle.spec.specs.Writing.{counting, opcodes, encode, emit, onto};
+ghost use Rattle.smc_writer.specs.Put.{opcode_of, needed, emitted};
 ghost use Rattle.smc_writer.specs.Changes.{blocks_of, origins_of, run_of, bytes_of};
 
 use crate::changes::Changes;
+use crate::runs::RunLength;
 use crate::{rows, single};
 use spec::Refusal;
 
@@ -22,33 +23,46 @@ pub struct Run {
     pub bytes: usize,
 }
 
+// What a run with a count is of, by the number of its shorter opcode.
+#[derive(Clone, Copy)]
+enum Counted {
+    Kept = 0,
+    Filled = 6,
+}
+
+impl Counted {
+    fn opcode(self) -> u8
+        ensures value { result ≡ opcode_of self }
+        ensures small { result ≤ 6 }
+    {
+        self as u8
+    }
+}
+
 // An opcode with its count, at the front of the output.
-fn put_counting(out: &mut [u8], u: u8, m: usize) -> usize
-    requires u_bound { u < 14 }
-    requires le_m { 1 ≤ m }
-    requires m_le_max_run { m ≤ max_run }
-    requires m_in_bounds { length (counting u m) ≤ length out.old }
-    ensures value { result ≡ length (counting u m) }
-    ensures out_after { out.new ≡ onto (counting u m) out.old }
+fn put_counting(out: &mut [u8], of: Counted, run: RunLength) -> usize
+    requires { length (counting (opcode_of of) run.blocks) ≤ length out.old }
+    ensures value { result ≡ length (counting (opcode_of of) run.blocks) }
+    ensures out_after { out.new ≡ onto (counting (opcode_of of) run.blocks) out.old }
 {
-    if m <= 16 {
-        out[0] = 16 * u + (m - 1) as u8;
+    let u = of.opcode();
+    let more = (run.blocks - 1) as u8;
+    if more < 16 {
+        out[0] = 16 * u + more;
         return 1;
     }
     out[0] = 16 * (u + 1);
-    out[1] = (m - 1) as u8;
+    out[1] = more;
     2
 }
 
-// A run of m blocks of one colour, at the front of the output.
-fn put_fill(out: &mut [u8], m: usize, colour: u8) -> usize
-    requires le_m { 1 ≤ m }
-    requires m_le_max_run { m ≤ max_run }
-    requires colour_in_bounds { length (counting 6 m ++ colour ∷ []) ≤ length out.old }
-    ensures value { result ≡ length (counting 6 m ++ colour ∷ []) }
-    ensures out_after { out.new ≡ onto (counting 6 m ++ colour ∷ []) out.old }
+// A run of blocks of one colour, at the front of the output.
+fn put_fill(out: &mut [u8], run: RunLength, colour: u8) -> usize
+    requires { length (counting 6 run.blocks ++ colour ∷ []) ≤ length out.old }
+    ensures value { result ≡ length (counting 6 run.blocks ++ colour ∷ []) }
+    ensures out_after { out.new ≡ onto (counting 6 run.blocks ++ colour ∷ []) out.old }
 {
-    let at = put_counting(out, 6, m);
+    let at = put_counting(out, Counted::Filled, run);
     out[at] = colour;
     at + 1
 }
@@ -71,14 +85,20 @@ impl Changes<'_> {
     {
         let rows = self.grid.block_at(self.new, k);
         if self.kept[k] {
-            let blocks = self.run_at(k, rows);
-            let bytes = put_counting(out, 0, blocks);
-            return Run { blocks, bytes };
+            let run = self.run_at(k, rows);
+            let bytes = put_counting(out, Counted::Kept, run);
+            return Run {
+                blocks: run.blocks,
+                bytes,
+            };
         }
         if rows::is_plain(rows) {
-            let blocks = self.run_at(k, rows);
-            let bytes = put_fill(out, blocks, rows::first_of(rows));
-            return Run { blocks, bytes };
+            let run = self.run_at(k, rows);
+            let bytes = put_fill(out, run, rows::first_of(rows));
+            return Run {
+                blocks: run.blocks,
+                bytes,
+            };
         }
         let px = rows::pixels_of(rows);
         let bytes = single::put_single(out, &px);

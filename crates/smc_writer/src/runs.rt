@@ -8,6 +8,14 @@ use crate::changes::Changes;
 use blocks::Rows;
 use spec::MAX_RUN;
 
+// How many blocks a run has.
+#[derive(Clone, Copy)]
+pub struct RunLength {
+    pub blocks: usize,
+    ghost some: { 1 ≤ blocks },
+    ghost most: { blocks ≤ max_run },
+}
+
 impl Changes<'_> {
     // Whether a run of kept blocks, or one of changed blocks with these rows, that began at block k ends before block j.
     fn ends_at(&self, k: usize, rows: Rows, j: usize) -> bool
@@ -27,20 +35,17 @@ impl Changes<'_> {
         rows != self.grid.block_at(self.new, j)
     }
 
-    // How many blocks the run that begins at block k has.
-    pub fn run_at(&self, k: usize, rows: Rows) -> usize
+    // How long the run is that begins at block k.
+    pub fn run_at(&self, k: usize, rows: Rows) -> RunLength
         requires k_bound { k < blocks_of self.now }
         requires leads { leads_of self.now k (pixels rows) }
-        ensures value { result ≡ run_of self.now k }
-        ensures some { 1 ≤ result }
-        ensures most { result ≤ max_run }
+        ensures { result.blocks ≡ run_of self.now k }
     {
-        let most = MAX_RUN;
-        for m in 1..most {
+        for m in 1..MAX_RUN {
             if self.ends_at(k, rows, k + m) {
-                return m;
+                return RunLength { blocks: m };
             }
         }
-        most
+        RunLength { blocks: MAX_RUN }
     }
 }

@@ -15,7 +15,8 @@ put_tabled-requires-clause-fits c = fits c.of-colours.ensures c.len.ensures c.ho
 pub put_tabled-requires-clause-stored : goal.put_tabled-requires-clause-stored
 put_tabled-requires-clause-stored c = let b = bits c.in-Some.table in
     let h = holds c.of-colours.ensures c.len.ensures c.holding.ensures c.in-Some.is in
-    c.filled.ensures b h (omega (arith, size-most c.in-Some.table)) ∙ ap (entries b) (all-found c.of-colours.ensures c.len.ensures c.holding.ensures c.in-Some.is)
+    c.filled.ensures b h (omega (arith, size-most c.in-Some.table))
+    ∙ ap (entries b) (all-found c.of-colours.ensures c.len.ensures c.holding.ensures c.in-Some.is)
 
 pub put_tabled-requires-clause-room : goal.put_tabled-requires-clause-room
 put_tabled-requires-clause-room c = omega (arith, room c.of-colours.ensures c.len.ensures c.holding.ensures c.in-Some.is)

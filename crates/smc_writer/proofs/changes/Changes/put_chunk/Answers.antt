@@ -19,4 +19,5 @@ returns-clause-value c = let e = c.put_runs-length.ensures.value in
 
 pub returns-clause-out_after : goal.returns-clause-out_after
 returns-clause-out_after c = let run = c.put_runs-length.ensures in
-    chunk-put (origins_of c.args.self.now) c.args.out.now c.requires (run.out_after refl) run.value (rw c.to_be_bytes-bytes.ensures at c.copy_from_slice.ensures.after)
+    chunk-put (origins_of c.args.self.now) c.args.out.now c.requires (run.out_after refl) run.value
+    (rw c.to_be_bytes-bytes.ensures at c.copy_from_slice.ensures.after)

@@ -1,32 +1,32 @@
 use Rattle.smc_writer.proofs.Running.{bytes-skip, bytes-fill, bytes-single, run-single}
 use Rattle.smc_writer.proofs.changes.Changes.put_run.Goals as goal
 
-pub put_counting-bytes-requires-clause-m_in_bounds : goal.put_counting-bytes-requires-clause-m_in_bounds
-put_counting-bytes-requires-clause-m_in_bounds c =
-    rw (bytes-skip c.args.self.now c.args.k c.if-self-k.true, ← c.run_at-blocks.ensures.value) at c.requires.room
+pub put_counting-bytes-requires : goal.put_counting-bytes-requires
+put_counting-bytes-requires c =
+    rw (bytes-skip c.args.self.now c.args.k c.if-self-k.true, ← c.run_at-run.ensures) at c.requires.room
 
 pub returns-then-self-k-clause-bytes_value : goal.returns-then-self-k-clause-bytes_value
 returns-then-self-k-clause-bytes_value c =
-    rw (bytes-skip c.args.self.now c.args.k c.if-self-k.true, ← c.run_at-blocks.ensures.value) c.put_counting-bytes.ensures.value
+    rw (bytes-skip c.args.self.now c.args.k c.if-self-k.true, ← c.run_at-run.ensures) c.put_counting-bytes.ensures.value
 
 pub returns-then-self-k-clause-out_after : goal.returns-then-self-k-clause-out_after
 returns-then-self-k-clause-out_after c =
-    rw (bytes-skip c.args.self.now c.args.k c.if-self-k.true, ← c.run_at-blocks.ensures.value) c.put_counting-bytes.ensures.out_after
+    rw (bytes-skip c.args.self.now c.args.k c.if-self-k.true, ← c.run_at-run.ensures) c.put_counting-bytes.ensures.out_after
 
-pub put_fill-bytes-requires-clause-colour_in_bounds : goal.put_fill-bytes-requires-clause-colour_in_bounds
-put_fill-bytes-requires-clause-colour_in_bounds c =
+pub put_fill-bytes-requires : goal.put_fill-bytes-requires
+put_fill-bytes-requires c =
     let e = bytes-fill c.args.self.now c.args.k c.if-self-k.false c.block_at-rows.ensures c.is_plain.ensures c.if-is_plain.true in
-    rw (e, ← c.run_at-blocks-then-is_plain.ensures.value, ← c.first_of.ensures) at c.requires.room
+    rw (e, ← c.run_at-run-then-is_plain.ensures, ← c.first_of.ensures) at c.requires.room
 
 pub returns-then-is_plain-clause-bytes_value : goal.returns-then-is_plain-clause-bytes_value
 returns-then-is_plain-clause-bytes_value c =
     let e = bytes-fill c.args.self.now c.args.k c.if-self-k.false c.block_at-rows.ensures c.is_plain.ensures c.if-is_plain.true in
-    rw (e, ← c.run_at-blocks-then-is_plain.ensures.value, ← c.first_of.ensures) c.put_fill-bytes.ensures.value
+    rw (e, ← c.run_at-run-then-is_plain.ensures, ← c.first_of.ensures) c.put_fill-bytes.ensures.value
 
 pub returns-then-is_plain-clause-out_after : goal.returns-then-is_plain-clause-out_after
 returns-then-is_plain-clause-out_after c =
     let e = bytes-fill c.args.self.now c.args.k c.if-self-k.false c.block_at-rows.ensures c.is_plain.ensures c.if-is_plain.true in
-    rw (e, ← c.run_at-blocks-then-is_plain.ensures.value, ← c.first_of.ensures) c.put_fill-bytes.ensures.out_after
+    rw (e, ← c.run_at-run-then-is_plain.ensures, ← c.first_of.ensures) c.put_fill-bytes.ensures.out_after
 
 pub put_single-bytes-requires : goal.put_single-bytes-requires
 put_single-bytes-requires c =

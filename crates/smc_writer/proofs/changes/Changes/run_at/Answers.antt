@@ -6,12 +6,12 @@ use Rattle.smc_writer.proofs.changes.Changes.run_at.Goals as goal
 pub loop-m-init : goal.loop-m-init
 loop-m-init c = counting-starts _ _ _ _ _ c.requires.k_bound
 
-pub returns-then-ends_at-clause-value : goal.returns-then-ends_at-clause-value
-returns-then-ends_at-clause-value c = counting-stops _ _ _ _ _ _ c.loop-m.invariant (sym c.ends_at.ensures ∙ c.if-ends_at.true)
+pub returns-then-ends_at : goal.returns-then-ends_at
+returns-then-ends_at c = counting-stops _ _ _ _ _ _ c.loop-m.invariant (sym c.ends_at.ensures ∙ c.if-ends_at.true)
 
 pub loop-m-preserved : goal.loop-m-preserved
 loop-m-preserved c = counting-on _ _ _ _ _ _ c.loop-m.invariant (omega arith) (sym c.ends_at.ensures ∙ c.if-ends_at.false)
 
-pub returns-clause-value : goal.returns-clause-value
-returns-clause-value c = let e : 256 ≡ c.loop-m.m = omega arith in
+pub returns : goal.returns
+returns c = let e : 256 ≡ c.loop-m.m = omega arith in
     e ∙ counting-full _ _ _ _ _ _ c.loop-m.invariant (omega arith)
