@@ -9,7 +9,7 @@ ghost use Rattle.std.specs.Prelude.{◌≡◌};
 ghost use Rattle.spec.specs.Listing.{decide, decision_says};
 
 pub use numbers::{feed_size, varint_at};
-use spec::{Answer, Decision};
+use spec::Decision;
 pub use walk::{step, walk_feed, walk_run};
 
 // What the board program does with a feed: its length first, then the size numbers, then 1, then the pixels.
@@ -21,7 +21,7 @@ pub fn decide(feed: &[u8]) -> Decision
     }
     let own = feed_size(feed);
     let answer = own.answer;
-    if answer.number != Answer::OK {
+    if !answer.is_ok() {
         return Decision::EndLine(answer);
     }
     let size = own.size;

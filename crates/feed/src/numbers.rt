@@ -1,22 +1,21 @@
 // House numbers, and the two that a feed starts with.
 ghost use Rattle.std.specs.Prelude.{◌≡◌, ◌&&◌, ltb, eqb, ◌≤◌};
-ghost use Rattle.spec.specs.Feeds.{last_group, varint_at, varint_says, max_number, both, no_size, feed_size_by, feed_size};
-ghost use Rattle.spec.specs.Answers.{answer};
+ghost use Rattle.spec.specs.Feeds.{last_group, varint_at, varint_says, varint_result, max_number, both, no_size, feed_size_by, feed_size};
+ghost use Rattle.spec.specs.Answers.{answer, refusal_number};
 ghost use Rattle.spec.specs.Sizes.{size_of};
 
-use spec::{Answer, FeedSize, Size, Varint};
+use spec::{Answer, FeedSize, Refusal, Size, Varint};
 
 // The number that starts at a place: one to four groups of seven bits, the lowest first.
-pub fn varint_at(feed: &[u8], at: usize) -> Varint
-    ensures { varint_says result ≡ varint_says (varint_at feed.now at) }
+pub fn varint_at(feed: &[u8], at: usize) -> Result<Varint, Refusal>
+    ensures { varint_result result ≡ varint_says (varint_at feed.now at) }
 {
-    let mut more: usize = 4;
     let mut scale = 1;
     let mut sum = 0;
     let mut place = at;
-    while more > 0 {
+    for _i in 0..Varint::GROUPS {
         if place >= feed.len() {
-            return Varint::Bad(Answer::FEED_CUT);
+            return Err(Refusal::FeedCut);
         }
         let group = feed[place] as usize;
         place += 1;
@@ -25,9 +24,8 @@ pub fn varint_at(feed: &[u8], at: usize) -> Varint
         }
         sum += (group - 128) * scale;
         scale *= 128;
-        more -= 1;
     }
-    Varint::Bad(Answer::BAD_VARINT)
+    Err(Refusal::BadVarint)
 }
 
 // Whether the last group adds nothing to those before it: "The shortest form only".
@@ -38,28 +36,24 @@ fn is_padding(scale: usize, group: usize) -> bool
 }
 
 // The number that the last group, worth `scale`, completes.
-fn last_group(scale: usize, group: usize, value: usize, after: usize) -> Varint
-    ensures { varint_says result ≡ varint_says (last_group scale group value after) }
+fn last_group(scale: usize, group: usize, value: usize, after: usize) -> Result<Varint, Refusal>
+    ensures { varint_result result ≡ varint_says (last_group scale group value after) }
 {
     if is_padding(scale, group) {
-        return Varint::Bad(Answer::BAD_VARINT);
+        return Err(Refusal::BadVarint);
     }
     if value > Varint::MAX {
-        return Varint::Bad(Answer::BAD_VARINT);
+        return Err(Refusal::BadVarint);
     }
-    Varint::Value(value, after)
+    Ok(Varint { value, after })
 }
 
 // A refusal of a feed's size, at this place.
-fn no_size(number: u8, place: usize) -> FeedSize
-    ensures { result ≡ no_size (answer number place) }
+fn no_size(why: Refusal, place: usize) -> FeedSize
+    ensures { result ≡ no_size (answer (refusal_number why) place) }
 {
     FeedSize {
-        answer: Answer {
-            number,
-            place,
-            block: 0,
-        },
+        answer: Answer::refused(why, place, 0),
         size: Size {
             width: 0,
             height: 0,
@@ -79,16 +73,12 @@ fn size_by(columns: usize, lines: usize, first: usize) -> FeedSize
     };
     if sizes::is_allowed(size) {
         return FeedSize {
-            answer: Answer {
-                number: Answer::OK,
-                place: 0,
-                block: 0,
-            },
+            answer: Answer::accepted(0, 0),
             size,
             first,
         };
     }
-    no_size(Answer::BAD_SIZE, 0)
+    no_size(Refusal::BadSize, 0)
 }
 
 // What a feed says of its size, by the two numbers that it starts with.
@@ -96,10 +86,10 @@ pub fn feed_size(feed: &[u8]) -> FeedSize
     ensures { result ≡ feed_size feed.now }
 {
     match varint_at(feed, 0) {
-        Varint::Bad(number) => no_size(number, 0),
-        Varint::Value(columns, at) => match varint_at(feed, at) {
-            Varint::Bad(number) => no_size(number, at),
-            Varint::Value(lines, first) => size_by(columns, lines, first),
+        Err(why) => no_size(why, 0),
+        Ok(columns) => match varint_at(feed, columns.after) {
+            Err(why) => no_size(why, columns.after),
+            Ok(lines) => size_by(columns.value, lines.value, lines.after),
         },
     }
 }

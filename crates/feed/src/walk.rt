@@ -1,13 +1,13 @@
 // The walk of a feed or of a run of chunks, chunk by chunk over a lent picture and map, with their record.
 ghost use Rattle.std.specs.Prelude.{◌≡◌, length};
-ghost use Rattle.spec.specs.Answers.{ok, answer};
+ghost use Rattle.spec.specs.Answers.{ok, answer, number_of, refusal_number};
 ghost use Rattle.spec.specs.Sizes.{blocks};
 ghost use Rattle.spec.specs.Maps.{record_of};
 ghost use Rattle.spec.specs.Boards.{board};
 ghost use Rattle.spec.specs.Feeds.{next_at, chunks_from, read_all, no_chunk, step_by, walk_step, walk_behind, walk, walk_run, tally};
 
 use crate::numbers;
-use spec::{Answer, Record, Recorded, Step, Tally, Varint};
+use spec::{Answer, Record, Recorded, Refusal, Step, Tally};
 
 // A step that reads no chunk: the walk's own answer, with record and place as they were lent.
 fn no_chunk(kept: Record, at: usize, answer: Answer) -> Step
@@ -22,14 +22,10 @@ fn no_chunk(kept: Record, at: usize, answer: Answer) -> Step
 }
 
 // A refusal at this place, at block 0.
-fn refusal(number: u8, place: usize) -> Answer
-    ensures { result ≡ answer number place }
+fn refusal(why: Refusal, place: usize) -> Answer
+    ensures { result ≡ answer (refusal_number why) place }
 {
-    Answer {
-        number,
-        place,
-        block: 0,
-    }
+    Answer::refused(why, place, 0)
 }
 
 // One step of a walk behind 1 and 2: reads the chunk whose length number stands at a place, or finds the end.
@@ -40,21 +36,15 @@ fn step_behind(kept: Record, feed: &[u8], at: usize, picture: &mut [u8], map: &m
     ensures map_after { map.new ≡ (step_by kept.size feed.now at (next_at feed.now at) (board picture.old map.old kept.unsettled)).board.map }
 {
     if at >= feed.len() {
-        return no_chunk(
-            kept,
-            at,
-            Answer {
-                number: Answer::OK,
-                place: feed.len(),
-                block: map.len(),
-            },
-        );
+        return no_chunk(kept, at, Answer::accepted(feed.len(), map.len()));
     }
     match numbers::varint_at(feed, at) {
-        Varint::Bad(number) => no_chunk(kept, at, refusal(number, at)),
-        Varint::Value(n, first) => {
+        Err(why) => no_chunk(kept, at, refusal(why, at)),
+        Ok(length) => {
+            let first = length.after;
+            let n = length.value;
             if feed.len() - first < n {
-                return no_chunk(kept, at, refusal(Answer::FEED_CUT, first));
+                return no_chunk(kept, at, refusal(Refusal::FeedCut, first));
             }
             let next = first + n;
             let read = smc::read_chunk(kept, &feed[first..next], picture, map);
@@ -77,10 +67,8 @@ pub fn step(kept: Record, feed: &[u8], at: usize, picture: &mut [u8], map: &mut 
     ensures picture_after { picture.new ≡ (walk_step kept.size feed.now at (board picture.old map.old kept.unsettled)).board.picture }
     ensures map_after { map.new ≡ (walk_step kept.size feed.now at (board picture.old map.old kept.unsettled)).board.map }
 {
-    let size = kept.size;
-    let fault = sizes::board_fault(size, picture.len(), map.len());
-    if fault != Answer::OK {
-        return no_chunk(kept, at, refusal(fault, 0));
+    if let Err(why) = sizes::check_board(kept.size, picture.len(), map.len()) {
+        return no_chunk(kept, at, refusal(why, 0));
     }
     step_behind(kept, feed, at, picture, map)
 }
@@ -108,7 +96,7 @@ fn read_chunks(
         if step.chunk {
             kept = step.kept;
             at = step.next;
-            if answer.number == Answer::OK {
+            if answer.is_ok() {
                 accepted += 1;
             }
         } else {
@@ -123,21 +111,21 @@ fn read_chunks(
 
 // The same behind 1 and 2, which were looked for: a feed from the end of its size numbers on, a run from its first byte on.
 fn walk_chunks(
-    fault: u8,
+    checked: Result<(), Refusal>,
     kept: Record,
     feed: &[u8],
     first: usize,
     picture: &mut [u8],
     map: &mut [u16],
 ) -> Tally
-    requires { fault ≡ ok → length map.old ≡ blocks kept.size }
-    ensures value { result ≡ tally kept.size (walk_behind fault kept.size (chunks_from (length feed.now) feed.now first) (board picture.old map.old kept.unsettled)) }
-    ensures picture_after { picture.new ≡ (walk_behind fault kept.size (chunks_from (length feed.now) feed.now first) (board picture.old map.old kept.unsettled)).board.picture }
-    ensures map_after { map.new ≡ (walk_behind fault kept.size (chunks_from (length feed.now) feed.now first) (board picture.old map.old kept.unsettled)).board.map }
+    requires { number_of checked ≡ ok → length map.old ≡ blocks kept.size }
+    ensures value { result ≡ tally kept.size (walk_behind (number_of checked) kept.size (chunks_from (length feed.now) feed.now first) (board picture.old map.old kept.unsettled)) }
+    ensures picture_after { picture.new ≡ (walk_behind (number_of checked) kept.size (chunks_from (length feed.now) feed.now first) (board picture.old map.old kept.unsettled)).board.picture }
+    ensures map_after { map.new ≡ (walk_behind (number_of checked) kept.size (chunks_from (length feed.now) feed.now first) (board picture.old map.old kept.unsettled)).board.map }
 {
-    if fault != Answer::OK {
+    if let Err(why) = checked {
         return Tally {
-            answer: refusal(fault, 0),
+            answer: refusal(why, 0),
             accepted: 0,
             kept,
         };
@@ -154,15 +142,14 @@ pub fn walk_feed(kept: Record, feed: &[u8], picture: &mut [u8], map: &mut [u16])
 {
     let own = numbers::feed_size(feed);
     let refusal = own.answer;
-    if refusal.number != Answer::OK {
+    if !refusal.is_ok() {
         return Recorded {
             answer: refusal,
             kept,
         };
     }
-    let size = kept.size;
-    let fault = sizes::feed_fault(own.size, size, picture.len(), map.len());
-    let tally = walk_chunks(fault, kept, feed, own.first, picture, map);
+    let checked = sizes::check_feed(own.size, kept.size, picture.len(), map.len());
+    let tally = walk_chunks(checked, kept, feed, own.first, picture, map);
     let answer = tally.answer;
     let after = tally.kept;
     Recorded {
@@ -177,7 +164,6 @@ pub fn walk_run(kept: Record, run: &[u8], picture: &mut [u8], map: &mut [u16]) -
     ensures picture_after { picture.new ≡ (walk_run kept.size run.now (board picture.old map.old kept.unsettled)).board.picture }
     ensures map_after { map.new ≡ (walk_run kept.size run.now (board picture.old map.old kept.unsettled)).board.map }
 {
-    let size = kept.size;
-    let fault = sizes::board_fault(size, picture.len(), map.len());
-    walk_chunks(fault, kept, run, 0, picture, map)
+    let checked = sizes::check_board(kept.size, picture.len(), map.len());
+    walk_chunks(checked, kept, run, 0, picture, map)
 }

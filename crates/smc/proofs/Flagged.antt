@@ -1,5 +1,6 @@
 -- A block's pixels by its flags, row by row. Assumes nothing.
-use Rattle.std.proofs.Common.{◌≡◌, ℕ, ◌+◌, ◌/◌, ◌%◌, ◌<◌, ◌≤◌, List, [], ◌∷◌, ◌++◌, length, get_or, sym, refl, add-zero, arith}
+use Rattle.std.proofs.Common.{◌≡◌, ℕ, ◌+◌, ◌/◌, ◌%◌, ◌<◌, ◌≤◌, List, [], ◌∷◌, ◌++◌, length, get_or, sym, ◌∙◌, arith}
+use lib.Seq.{take-length}
 use mathlib.Core.List.{map-append}
 use Rattle.spec.specs.Basics.{part}
 use Rattle.spec.specs.Flags.{digits, flags, chosen}
@@ -31,20 +32,16 @@ pub quad-rows : (cs : List ℕ) (f g h k : ℕ) → g < 256 → h < 256 → k < 
 quad-rows cs f g h k hg hh hk =
     sym (chosen-rows cs (digits 2 4 f) (digits 2 4 g) (digits 2 4 h) (digits 2 4 k) _ (quad-flags f g h k hg hh hk))
 
--- two colours, one by one
-pub two-colours : (l : List ℕ) → length l ≡ 2 → get_or l 0 0 ∷ get_or l 1 0 ∷ [] ≡ l
-two-colours [] e = absurd (omega arith)
-two-colours (a ∷ []) e = absurd (omega arith)
-two-colours (a ∷ b ∷ []) e = refl
-two-colours (a ∷ b ∷ c ∷ l) e = absurd (omega arith)
+-- a list that is known to be so long, one by one
+whole-part : (l : List ℕ) (n : ℕ) → length l ≡ n → part l 0 n ≡ l
+whole-part l n e = rw (← e) (take-length l)
 
--- a block's flag bytes, one by one
-pub two_bytes : (s : List ℕ) (q : ℕ) → q + 2 ≤ length s → get_or s q 0 ∷ get_or s (q + 1) 0 ∷ [] ≡ part s q 2
-two_bytes s q h = rw (part-listed s q 2 h, add-zero q)
+pub two : (l : List ℕ) → length l ≡ 2 → get_or l 0 0 ∷ get_or l 1 0 ∷ [] ≡ l
+two l e = sym (part-listed l 0 2 (omega arith)) ∙ whole-part l 2 e
 
-pub four_bytes : (s : List ℕ) (q : ℕ) → q + 4 ≤ length s → get_or s q 0 ∷ get_or s (q + 1) 0 ∷ get_or s (q + 2) 0 ∷ get_or s (q + 3) 0 ∷ [] ≡ part s q 4
-four_bytes s q h = rw (part-listed s q 4 h, add-zero q)
+pub four : (l : List ℕ) → length l ≡ 4 → get_or l 0 0 ∷ get_or l 1 0 ∷ get_or l 2 0 ∷ get_or l 3 0 ∷ [] ≡ l
+four l e = sym (part-listed l 0 4 (omega arith)) ∙ whole-part l 4 e
 
-pub six-bytes : (s : List ℕ) (q : ℕ) → q + 6 ≤ length s
-    → get_or s q 0 ∷ get_or s (q + 1) 0 ∷ get_or s (q + 2) 0 ∷ get_or s (q + 3) 0 ∷ get_or s (q + 4) 0 ∷ get_or s (q + 5) 0 ∷ [] ≡ part s q 6
-six-bytes s q h = rw (part-listed s q 6 h, add-zero q)
+pub six : (l : List ℕ) → length l ≡ 6
+    → get_or l 0 0 ∷ get_or l 1 0 ∷ get_or l 2 0 ∷ get_or l 3 0 ∷ get_or l 4 0 ∷ get_or l 5 0 ∷ [] ≡ l
+six l e = sym (part-listed l 0 6 (omega arith)) ∙ whole-part l 6 e

@@ -13,6 +13,7 @@ use Rattle.spec.proofs.Loops.{unroll, loop-remains, loop-accepts, loop-follows}
 use Rattle.spec.proofs.Made.{length-extend}
 use Rattle.spec.proofs.SoFar.{so_far-all, paint-none, remap-none}
 use Rattle.smc.specs.Painting.{Accepts, origins_of, Lent, kind_at, blocks_at, Room, after, Inside, Turned}
+use Rattle.smc.specs.declared.tables.Tables.{Tables}
 use Rattle.smc.specs.Tables.{Holds}
 use Rattle.blocks.proofs.Rowwise.{on}
 
@@ -70,18 +71,17 @@ module _ (n : ℕ) (s : List ℕ) (g : Accepts (decode n s)) (st : State) (same 
       by false e = absurd (never (decode n s) g _ (same ∙ loop-follows n s (length s) st l e))
 
 -- the loop stands inside a state from which `decode` goes on
-pub record Going (c r : ℕ) (s pic₀ map₀ : List ℕ) (at k : ℕ) (l₁ : List ℕ) (n₁ : ℕ) (l₂ : List ℕ) (n₂ : ℕ) (l₃ : List ℕ) (n₃ : ℕ) (pic m : List ℕ)
-    : Type 0 where
+pub record Going (c r : ℕ) (s pic₀ map₀ : List ℕ) (at k : ℕ) (t : Tables) (pic m : List ℕ) : Type 0 where
   pub st : State
-  pub inside : Inside c r pic₀ map₀ at k l₁ n₁ l₂ n₂ l₃ n₃ pic m st
+  pub inside : Inside c r pic₀ map₀ at k t pic m st
   pub same : decode (c * r) s ≡ loop (length s) (c * r) s st
   pub most : k ≤ c * r
   pub lent : Lent c r pic m
 
 module _ (c r : ℕ) (s pic₀ map₀ : List ℕ) (a : Accepts (decode (c * r) s)) where
-  pub begins : Lent c r pic₀ map₀ → (l₁ : List ℕ) (n₁ : ℕ) (l₂ : List ℕ) (n₂ : ℕ) (l₃ : List ℕ) (n₃ : ℕ)
-      → Holds 1 l₁ n₁ emptied → Holds 2 l₂ n₂ emptied → Holds 3 l₃ n₃ emptied → Going c r s pic₀ map₀ 4 0 l₁ n₁ l₂ n₂ l₃ n₃ pic₀ map₀
-  begins lent l₁ n₁ l₂ n₂ l₃ n₃ h₁ h₂ h₃ =
+  pub begins : Lent c r pic₀ map₀ → (t : Tables) → Holds 1 t.pairs.colours t.pairs.next emptied → Holds 2 t.quads.colours t.quads.next emptied
+      → Holds 3 t.octets.colours t.octets.next emptied → Going c r s pic₀ map₀ 4 0 t pic₀ map₀
+  begins lent t h₁ h₂ h₃ =
       record {
         st = start;
         inside =
@@ -103,19 +103,17 @@ module _ (c r : ℕ) (s pic₀ map₀ : List ℕ) (a : Accepts (decode (c * r) s
         lent = lent;
       }
 
-  module _ (at k : ℕ) (l₁ : List ℕ) (n₁ : ℕ) (l₂ : List ℕ) (n₂ : ℕ) (l₃ : List ℕ) (n₃ : ℕ) (pic m : List ℕ)
-      (g : Going c r s pic₀ map₀ at k l₁ n₁ l₂ n₂ l₃ n₃ pic m) where
+  module _ (at k : ℕ) (t : Tables) (pic m : List ℕ) (g : Going c r s pic₀ map₀ at k t pic m) where
     pub opens : k < c * r → Opens (c * r) s at k g.st
     opens l =
         let i = g.inside in
         rw (i.ats, i.ks) (opened (c * r) s a g.st g.same (omega (arith, i.ks)))
 
-    module _ (l : k < c * r) (at' k' : ℕ) (l₁' : List ℕ) (n₁' : ℕ) (l₂' : List ℕ) (n₂' : ℕ) (l₃' : List ℕ) (n₃' : ℕ) (pic' m' : List ℕ)
-        (t : Turned c r s at k l₁ n₁ l₂ n₂ l₃ n₃ pic m at' k' l₁' n₁' l₂' n₂' l₃' n₃' pic' m') where
-      pub continues : length pic' ≡ length pic → length m' ≡ length m → Going c r s pic₀ map₀ at' k' l₁' n₁' l₂' n₂' l₃' n₃' pic' m'
+    module _ (l : k < c * r) (at' k' : ℕ) (t' : Tables) (pic' m' : List ℕ) (turned : Turned c r s at k t pic m at' k' t' pic' m') where
+      pub continues : length pic' ≡ length pic → length m' ≡ length m → Going c r s pic₀ map₀ at' k' t' pic' m'
       continues ep em =
           let o = opens l in
-          let i = t.inside g.st pic₀ map₀ g.inside o.full in
+          let i = turned.inside g.st pic₀ map₀ g.inside o.full in
           let e = i.ks ∙ length-extend (kind_at s at) _ s _ (blocks_at s at) g.st in
           let w = o.room.within in
           record {
@@ -129,7 +127,7 @@ module _ (c r : ℕ) (s pic₀ map₀ : List ℕ) (a : Accepts (decode (c * r) s
       pub less : (at < at') × (at' ≤ length s)
       less =
           let o = opens l in
-          let e = (t.inside g.st pic₀ map₀ g.inside o.full).ats in
+          let e = (turned.inside g.st pic₀ map₀ g.inside o.full).ats in
           let f = o.room.inside in
           let b = body-after s at in
           rw e (omega arith, f)

@@ -5,19 +5,20 @@ use Rattle.spec.specs.declared.Size.{Size}
 use Rattle.spec.specs.Basics.{if}
 use Rattle.spec.specs.Answers.{ok, bad_count, answer}
 use Rattle.spec.specs.Sizes.{allowed, pixels, columns, lines, blocks, fault}
-use Rattle.spec.specs.Pictures.{Origin}
+use Rattle.spec.specs.Pictures.{Origin, paint}
 use Rattle.spec.specs.Maps.{remap, newly_unsettled, newly_settled, recount, miscounts}
 use Rattle.spec.specs.Chunks as Chunks
 use Rattle.spec.specs.Chunks.{Outcome, decode, verdict}
 use Rattle.spec.specs.Boards.{Board, board, left, exact, paint_board, effect, recounted, read_exact, read}
 use Rattle.spec.proofs.Lists.{checked-none, checked_refused}
 use Rattle.spec.proofs.Limits.{no-fault-lengths}
+use Rattle.blocks.specs.declared.grid.Grid.{Grid}
 use Rattle.blocks.proofs.Rowwise.{canvas}
 use Rattle.spec.proofs.Refused.{Numbered, refused, accepted, numbered}
 use Rattle.spec.proofs.Records.{newly-most}
 use Rattle.smc_check.specs.Tallying.{Balanced, sums}
 use Rattle.smc_check.proofs.Tallies.{recount-by}
-use Rattle.smc.specs.Painting.{Accepts, Lent}
+use Rattle.smc.specs.Painting.{Accepts, origins_of, Lent}
 
 -- two tests that say the same
 ltb-same : (a b c d : ℕ) → (a < b → c < d) → (b ≤ a → d ≤ c) → ltb a b ≡ ltb c d
@@ -46,6 +47,10 @@ miscounts-by m os n now kept len e =
     (λ h. omega (arith, e, len, h)) in
     let q = ltb-same n (recount os m kept) (2 * n) (kept + now) (λ h. omega (arith, r, len, h)) (λ h. omega (arith, r, len, h)) in
     rw (p, q)
+
+-- the blocks of a size's grid
+pub blocks-of : (g : Grid) (z : Size) {n : ℕ} → g.columns ≡ columns z → g.lines ≡ lines z → n ≡ g.columns * g.lines → n ≡ blocks z
+blocks-of g z ec el e = e ∙ rw (ec, el)
 
 module _ (z : Size) (s pic m : List ℕ) (kept : ℕ) where
   abbrev lent_board : Board
@@ -123,3 +128,37 @@ module _ (z : Size) (s pic m : List ℕ) (kept : ℕ) where
           let len = map-exact in
           let few = newly-most m (remap g.os m) in
           omega (arith, e, len, few)
+
+    -- the same by the number of blocks that the code holds: each outcome once
+    module _ (n : ℕ) (en : n ≡ blocks z) where
+      pub map-of : length m ≡ n
+      map-of = map-exact ∙ sym en
+
+      module _ (a : Answer) (ea : a ≡ verdict s (decode n s)) where
+        pub refused-by-chunk : a.number ≢ ok → read z s lent_board ≡ left a lent_board
+        refused-by-chunk k = read_keeps a (rw en at ea) k
+
+        pub accepted-chunk : a.number ≡ ok → Accepts (decode n s)
+        accepted-chunk k = rw (← en) at (is-accepted a (rw en at ea) k)
+
+        module _ (k : a.number ≡ ok) (now : ℕ) (b : Balanced m now (decode n s)) where
+          pub now-within : now ≤ 2 * n
+          now-within = rw (← en) at (now-small (is-accepted a (rw en at ea) k) now (rw en at b))
+
+          pub refused-by-count : (ltb (kept + now) n || ltb (2 * n) (kept + now)) ≡ true → read z s lent_board ≡ left (answer bad_count 0) lent_board
+          refused-by-count t = read-miscounts (is-accepted a (rw en at ea) k) now (rw en at b) (rw en at t)
+
+          pub painted : (ltb (kept + now) n || ltb (2 * n) (kept + now)) ≡ false → read z s lent_board
+              ≡ left a (board (paint (columns z) (lines z) (origins_of (decode n s)) pic) (remap (origins_of (decode n s)) m) (kept + now - n))
+          painted t =
+              let g = is-accepted a (rw en at ea) k in
+              let e : a ≡ verdict s (Chunks.accepted g.os) = rw g.is at (rw en at ea) in
+              let o : origins_of (decode n s) ≡ g.os = rw (en, g.is) in
+              let c = columns z in
+              let r = lines z in
+              let x = decode n s in
+              read-paints g now (rw en at b) (rw en at t)
+              ∙ ap (λ (y : Answer). left y (paint_board z g.os lent_board)) (sym e)
+              ∙ ap (λ (os : List Origin). left a (board (paint c r os pic) (remap os m) (recount g.os m kept))) (sym o)
+              ∙ ap (λ (y : ℕ). left a (board (paint c r (origins_of x) pic) (remap (origins_of x) m) y))
+              (kept_then g now (rw en at b) ∙ ap (λ (y : ℕ). kept + now - y) (sym en))

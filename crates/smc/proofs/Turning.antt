@@ -1,8 +1,9 @@
 -- One opcode, whichever it is: from what its own function did to the state behind all the loop's locals. Assumes nothing.
-use Rattle.std.proofs.Common.{◌≡◌, ℕ, ◌+◌, false, ◌≢◌, List, length, get_or, sym, ◌∙◌, subst, arith}
+use Rattle.std.proofs.Common.{◌≡◌, ℕ, ◌+◌, false, ◌≢◌, List, length, get_or, refl, sym, ◌∙◌, subst, arith}
 use Rattle.spec.specs.Basics.{part}
 use Rattle.spec.specs.Chunks.{once, stores, missing, fills, body_at, State, table, Table}
 use Rattle.spec.proofs.Made.{length-extend}
+use Rattle.smc.specs.declared.tables.Tables.{Tables}
 use Rattle.smc.specs.Tables.{Holds}
 use Rattle.smc.specs.Shows.{Shows}
 use Rattle.smc.specs.Painting.{kind_at, blocks_at, end_at, after, Ran, Tabled, Inside, Turned}
@@ -20,17 +21,20 @@ abbrev Kept : ℕ → List ℕ → ℕ → List ℕ → ℕ → List ℕ → ℕ
 Kept b l n l' n' s at = (st : State) → length st.tables ≡ 4 → Holds b l n (table st b) → Holds b l' n' (table (after s at st) b)
 
 -- one in which it does not store
-apart : (s : List ℕ) (at b : ℕ) (l : List ℕ) (n : ℕ) → stores (kind_at s at) ≢ b → Kept b l n l n s at
-apart s at b l n ne st four g =
-    subst (λ (t : Table). Holds b l n t) (sym (stored_other (kind_at s at) (part s (body_at s at) (once (kind_at s at))) st.tables b ne)) g
+apart : (s : List ℕ) (at b : ℕ) {l l' : List ℕ} {n n' : ℕ} → l' ≡ l → n' ≡ n → stores (kind_at s at) ≢ b → Kept b l n l' n' s at
+apart s at b {l} {l'} {n} {n'} el en ne st four g =
+    rw (el, en)
+    (subst (λ (t : Table). Holds b l n t) (sym (stored_other (kind_at s at) (part s (body_at s at) (once (kind_at s at))) st.tables b ne)) g)
 
-module _ (c r : ℕ) (s : List ℕ) (at k : ℕ) (l₁ : List ℕ) (n₁ : ℕ) (l₂ : List ℕ) (n₂ : ℕ) (l₃ : List ℕ) (n₃ : ℕ) (pic m pic' m' : List ℕ) (at' k' : ℕ) where
-  turned : (l₁' : List ℕ) (n₁' : ℕ) (l₂' : List ℕ) (n₂' : ℕ) (l₃' : List ℕ) (n₃' : ℕ) → at' ≡ end_at s at → k' ≡ k + blocks_at s at
-      → Kept 1 l₁ n₁ l₁' n₁' s at → Kept 2 l₂ n₂ l₂' n₂' s at → Kept 3 l₃ n₃ l₃' n₃' s at
-      → ((st : State) (pic₀ map₀ : List ℕ) → Inside c r pic₀ map₀ at k l₁ n₁ l₂ n₂ l₃ n₃ pic m st
+module _ (c r : ℕ) (s : List ℕ) (at k : ℕ) (t : Tables) (pic m : List ℕ) (at' k' : ℕ) (pic' m' : List ℕ) where
+  turned : (t' : Tables) → at' ≡ end_at s at → k' ≡ k + blocks_at s at
+      → Kept 1 t.pairs.colours t.pairs.next t'.pairs.colours t'.pairs.next s at
+      → Kept 2 t.quads.colours t.quads.next t'.quads.colours t'.quads.next s at
+      → Kept 3 t.octets.colours t.octets.next t'.octets.colours t'.octets.next s at
+      → ((st : State) (pic₀ map₀ : List ℕ) → Inside c r pic₀ map₀ at k t pic m st
       → missing (fills st.tables) (kind_at s at) (get_or s (body_at s at) 0) ≡ false → Shows c r pic₀ map₀ (after s at st).made pic' m')
-      → Turned c r s at k l₁ n₁ l₂ n₂ l₃ n₃ pic m at' k' l₁' n₁' l₂' n₂' l₃' n₃' pic' m'
-  turned l₁' n₁' l₂' n₂' l₃' n₃' goes makes pairs quads octets shows =
+      → Turned c r s at k t pic m at' k' t' pic' m'
+  turned t' goes makes pairs quads octets shows =
       record {
         inside = λ st pic₀ map₀ g full.
             record {
@@ -44,28 +48,36 @@ module _ (c r : ℕ) (s : List ℕ) (at k : ℕ) (l₁ : List ℕ) (n₁ : ℕ) 
             };
       }
 
-  pub turned_plain : Ran c r s at k pic m pic' m' at' k' → stores (kind_at s at) ≡ 0
-      → Turned c r s at k l₁ n₁ l₂ n₂ l₃ n₃ pic m at' k' l₁ n₁ l₂ n₂ l₃ n₃ pic' m'
-  turned_plain t e =
-      turned _ _ _ _ _ _ t.goes t.makes
-      (apart s at 1 l₁ n₁ (λ z. omega arith)) (apart s at 2 l₂ n₂ (λ z. omega arith)) (apart s at 3 l₃ n₃ (λ z. omega arith))
-      (λ st pic₀ map₀ g full. t.shows st pic₀ map₀ g.ks g.shows)
+  pub turned_plain : Ran c r s at k pic m pic' m' at' k' → stores (kind_at s at) ≡ 0 → Turned c r s at k t pic m at' k' t pic' m'
+  turned_plain ran e =
+      turned t ran.goes ran.makes (apart s at 1 refl refl (λ z. omega arith)) (apart s at 2 refl refl (λ z. omega arith))
+      (apart s at 3 refl refl (λ z. omega arith)) (λ st pic₀ map₀ g full. ran.shows st pic₀ map₀ g.ks g.shows)
 
-  module _ (l' : List ℕ) (n' : ℕ) where
-    pub turned-pairs : Tabled 1 c r s at k pic m l₁ n₁ pic' m' l' at' k' n' → stores (kind_at s at) ≢ 2 → stores (kind_at s at) ≢ 3
-        → Turned c r s at k l₁ n₁ l₂ n₂ l₃ n₃ pic m at' k' l' n' l₂ n₂ l₃ n₃ pic' m'
-    turned-pairs t ne2 ne3 =
-        turned _ _ _ _ _ _ t.goes t.makes t.holds (apart s at 2 l₂ n₂ ne2) (apart s at 3 l₃ n₃ ne3)
-        (λ st pic₀ map₀ g full. t.shows st pic₀ map₀ g.ks g.pairs full g.shows)
+  -- the opcode has the table of so many bits, and the other two are as they were
+  module _ (t' : Tables) where
+    abbrev SamePairs : Type 0
+    SamePairs = (t'.pairs.colours ≡ t.pairs.colours) × (t'.pairs.next ≡ t.pairs.next)
 
-    pub turned-quads : Tabled 2 c r s at k pic m l₂ n₂ pic' m' l' at' k' n' → stores (kind_at s at) ≢ 1 → stores (kind_at s at) ≢ 3
-        → Turned c r s at k l₁ n₁ l₂ n₂ l₃ n₃ pic m at' k' l₁ n₁ l' n' l₃ n₃ pic' m'
-    turned-quads t ne1 ne3 =
-        turned _ _ _ _ _ _ t.goes t.makes (apart s at 1 l₁ n₁ ne1) t.holds (apart s at 3 l₃ n₃ ne3)
-        (λ st pic₀ map₀ g full. t.shows st pic₀ map₀ g.ks g.quads full g.shows)
+    abbrev SameQuads : Type 0
+    SameQuads = (t'.quads.colours ≡ t.quads.colours) × (t'.quads.next ≡ t.quads.next)
 
-    pub turned-octets : Tabled 3 c r s at k pic m l₃ n₃ pic' m' l' at' k' n' → stores (kind_at s at) ≢ 1 → stores (kind_at s at) ≢ 2
-        → Turned c r s at k l₁ n₁ l₂ n₂ l₃ n₃ pic m at' k' l₁ n₁ l₂ n₂ l' n' pic' m'
-    turned-octets t ne1 ne2 =
-        turned _ _ _ _ _ _ t.goes t.makes (apart s at 1 l₁ n₁ ne1) (apart s at 2 l₂ n₂ ne2) t.holds
-        (λ st pic₀ map₀ g full. t.shows st pic₀ map₀ g.ks g.octets full g.shows)
+    abbrev SameOctets : Type 0
+    SameOctets = (t'.octets.colours ≡ t.octets.colours) × (t'.octets.next ≡ t.octets.next)
+
+    pub turned-pairs : Tabled 1 c r s at k pic m t.pairs.colours t.pairs.next pic' m' t'.pairs.colours at' k' t'.pairs.next → SameQuads → SameOctets
+        → stores (kind_at s at) ≢ 2 → stores (kind_at s at) ≢ 3 → Turned c r s at k t pic m at' k' t' pic' m'
+    turned-pairs ran q o ne2 ne3 =
+        turned t' ran.goes ran.makes ran.holds (apart s at 2 q.0 q.1 ne2) (apart s at 3 o.0 o.1 ne3)
+        (λ st pic₀ map₀ g full. ran.shows st pic₀ map₀ g.ks g.pairs full g.shows)
+
+    pub turned-quads : Tabled 2 c r s at k pic m t.quads.colours t.quads.next pic' m' t'.quads.colours at' k' t'.quads.next → SamePairs → SameOctets
+        → stores (kind_at s at) ≢ 1 → stores (kind_at s at) ≢ 3 → Turned c r s at k t pic m at' k' t' pic' m'
+    turned-quads ran p o ne1 ne3 =
+        turned t' ran.goes ran.makes (apart s at 1 p.0 p.1 ne1) ran.holds (apart s at 3 o.0 o.1 ne3)
+        (λ st pic₀ map₀ g full. ran.shows st pic₀ map₀ g.ks g.quads full g.shows)
+
+    pub turned-octets : Tabled 3 c r s at k pic m t.octets.colours t.octets.next pic' m' t'.octets.colours at' k' t'.octets.next → SamePairs → SameQuads
+        → stores (kind_at s at) ≢ 1 → stores (kind_at s at) ≢ 2 → Turned c r s at k t pic m at' k' t' pic' m'
+    turned-octets ran p q ne1 ne2 =
+        turned t' ran.goes ran.makes (apart s at 1 p.0 p.1 ne1) (apart s at 2 q.0 q.1 ne2) ran.holds
+        (λ st pic₀ map₀ g full. ran.shows st pic₀ map₀ g.ks g.octets full g.shows)

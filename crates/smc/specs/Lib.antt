@@ -2,5 +2,6 @@
 pub mod Tables
 pub mod Factors
 pub mod Runs
+pub mod Storing
 pub mod Shows
 pub mod Painting

@@ -25,6 +25,7 @@ use Rattle.spec.specs.Chunks.{
 use Rattle.blocks.specs.Blocks.{Canvas}
 use Rattle.smc.specs.Tables.{Holds}
 use Rattle.smc.specs.Shows.{Shows}
+use Rattle.smc.specs.declared.tables.Tables.{Tables}
 
 -- an accepted chunk, and its origins
 pub record Accepts (x : Outcome) : Type 0 where
@@ -90,20 +91,18 @@ pub record Tabled (b c r : ℕ) (s : List ℕ) (at k : ℕ) (pic m l : List ℕ)
   pub holds : (st : State) → length st.tables ≡ 4 → Holds b l next (table st b) → Holds b l' next' (table (after s at st) b)
 
 -- the state that the loop's locals hold
-pub record Inside (c r : ℕ) (pic₀ map₀ : List ℕ) (at k : ℕ) (l₁ : List ℕ) (n₁ : ℕ) (l₂ : List ℕ) (n₂ : ℕ) (l₃ : List ℕ) (n₃ : ℕ) (pic m : List ℕ) (st : State)
-    : Type 0 where
+pub record Inside (c r : ℕ) (pic₀ map₀ : List ℕ) (at k : ℕ) (t : Tables) (pic m : List ℕ) (st : State) : Type 0 where
   pub ats : at ≡ st.at
   pub ks : k ≡ length st.made
   pub four : length st.tables ≡ 4
-  pub pairs : Holds 1 l₁ n₁ (table st 1)
-  pub quads : Holds 2 l₂ n₂ (table st 2)
-  pub octets : Holds 3 l₃ n₃ (table st 3)
+  pub pairs : Holds 1 t.pairs.colours t.pairs.next (table st 1)
+  pub quads : Holds 2 t.quads.colours t.quads.next (table st 2)
+  pub octets : Holds 3 t.octets.colours t.octets.next (table st 3)
   pub shows : Shows c r pic₀ map₀ st.made pic m
 
 -- what the opcode at s[at] does, whichever it is
-pub record Turned (c r : ℕ) (s : List ℕ) (at k : ℕ) (l₁ : List ℕ) (n₁ : ℕ) (l₂ : List ℕ) (n₂ : ℕ) (l₃ : List ℕ) (n₃ : ℕ) (pic m : List ℕ)
-    (at' k' : ℕ) (l₁' : List ℕ) (n₁' : ℕ) (l₂' : List ℕ) (n₂' : ℕ) (l₃' : List ℕ) (n₃' : ℕ) (pic' m' : List ℕ) : Type 0 where
+pub record Turned (c r : ℕ) (s : List ℕ) (at k : ℕ) (t : Tables) (pic m : List ℕ) (at' k' : ℕ) (t' : Tables) (pic' m' : List ℕ) : Type 0 where
   pub inside :
-      (st : State) (pic₀ map₀ : List ℕ) → Inside c r pic₀ map₀ at k l₁ n₁ l₂ n₂ l₃ n₃ pic m st
+      (st : State) (pic₀ map₀ : List ℕ) → Inside c r pic₀ map₀ at k t pic m st
       → missing (fills st.tables) (kind_at s at) (slice_index s (body_at s at)) ≡ false
-      → Inside c r pic₀ map₀ at' k' l₁' n₁' l₂' n₂' l₃' n₃' pic' m' (after s at st)
+      → Inside c r pic₀ map₀ at' k' t' pic' m' (after s at st)

@@ -10,23 +10,20 @@ mod runs;
 mod tables;
 
 ghost use Rattle.std.specs.Prelude.{◌≡◌, ◌+◌, ◌*◌, ◌≤◌, ◌||◌, nat_lt};
-ghost use Rattle.spec.specs.Answers.{answer};
+ghost use Rattle.spec.specs.Answers.{answer, refusal_number};
 ghost use Rattle.spec.specs.Sizes.{max_blocks};
 ghost use Rattle.spec.specs.Boards.{board, read};
 ghost use Rattle.spec.specs.Maps.{record_of};
 
-use spec::{Answer, Record, Recorded};
+use blocks::Grid;
+use spec::{Answer, Record, Recorded, Refusal};
 
 // An answer at place 0 and block 0, with the record as it was.
-fn refused(number: u8, kept: Record) -> Recorded
-    ensures { result ≡ record { answer = answer number 0; kept = kept } }
+fn refused(why: Refusal, kept: Record) -> Recorded
+    ensures { result ≡ record { answer = answer (refusal_number why) 0; kept = kept } }
 {
     Recorded {
-        answer: Answer {
-            number,
-            place: 0,
-            block: 0,
-        },
+        answer: Answer::from(why),
         kept,
     }
 }
@@ -53,22 +50,20 @@ pub fn read_chunk(kept: Record, chunk: &[u8], picture: &mut [u8], map: &mut [u16
     ensures map_after { map.new ≡ (read kept.size chunk.now (board picture.old map.old kept.unsettled)).board.map }
 {
     let size = kept.size;
-    let number = sizes::board_fault(size, picture.len(), map.len());
-    if number != Answer::OK {
-        return refused(number, kept);
+    if let Err(why) = sizes::check_board(size, picture.len(), map.len()) {
+        return refused(why, kept);
     }
-    let columns = size.width / 4;
-    let lines = size.height / 4;
-    let blocks = columns * lines;
+    let grid = Grid::of(size);
+    let blocks = grid.blocks();
     let changed = smc_check::check_and_count(blocks, chunk, map);
     let answer = changed.answer;
     if answer.number != Answer::OK {
         return Recorded { answer, kept };
     }
     if miscounts(blocks, kept.unsettled, changed.now) {
-        return refused(Answer::BAD_COUNT, kept);
+        return refused(Refusal::BadCount, kept);
     }
-    paint::paint(columns, lines, chunk, picture, map);
+    paint::paint(grid, chunk, picture, map);
     Recorded {
         answer,
         kept: Record {

@@ -1,154 +1,103 @@
 // The three colour tables of a chunk. A table is one run of colours, entry after entry, and the number of its next entry.
-ghost use Rattle.std.specs.Prelude.{◌≡◌, ◌+◌, ◌*◌, ◌%◌, ◌<◌, ◌≤◌, true, length};
+ghost use Rattle.std.specs.Prelude.{◌≡◌, ℕ, ◌+◌, ◌*◌, ◌/◌, ◌%◌, ◌<◌, ◌≤◌, true, length};
 ghost use Rattle.std.proofs.lemmas.List.Edits.{sets};
 ghost use Rattle.spec.specs.Basics.{part};
 ghost use Rattle.spec.specs.Chunks.{capacity, emptied};
-ghost use Rattle.smc.specs.Tables.{Holds, Entered};
+ghost use Rattle.smc.specs.Tables.{Holds, Entered, colours};
 
-// The pairs stored in a chunk.
+// A table of so many colours to an entry, and so many in all.
 #[derive(Drop)]
-pub struct PairTable {
-    pub colours: [u8; PairTable::CAPACITY * PairTable::COLOURS],
+pub struct Table<const COLOURS: usize, const ALL: usize> {
+    pub colours: [u8; ALL],
     pub next: u8,
+    ghost all: { ALL ≡ COLOURS * capacity },
 }
 
-impl PairTable {
-    pub const CAPACITY: usize = 256;
-
-    // to an entry
-    pub const COLOURS: usize = 2;
-
+impl<const COLOURS: usize, const ALL: usize> Table<COLOURS, ALL> {
     // The table at the start of a chunk.
     pub fn emptied() -> Self
-        ensures { Holds 1 result.colours result.next emptied }
+        requires { ALL ≡ COLOURS * capacity }
+        ensures { (bits : ℕ) → COLOURS ≡ colours bits → Holds bits result.colours result.next emptied }
     {
         Self {
-            colours: [0; PairTable::CAPACITY * PairTable::COLOURS],
+            colours: [0; ALL],
             next: 0,
         }
     }
-}
 
-// The quads stored in a chunk.
-#[derive(Drop)]
-pub struct QuadTable {
-    pub colours: [u8; QuadTable::CAPACITY * QuadTable::COLOURS],
-    pub next: u8,
-}
-
-impl QuadTable {
-    pub const CAPACITY: usize = 256;
-
-    // to an entry
-    pub const COLOURS: usize = 4;
-
-    // The table at the start of a chunk.
-    pub fn emptied() -> Self
-        ensures { Holds 2 result.colours result.next emptied }
+    // Stores the colours at s[q] as the next entry; after the last comes the first.
+    fn store(&mut self, s: &[u8], q: usize)
+        requires { q + COLOURS ≤ length s.now }
+        ensures colours_after { self.new.colours ≡ sets self.old.colours (COLOURS * self.old.next) (part s.now q COLOURS) }
+        ensures next_after { self.new.next ≡ (self.old.next + 1) % capacity }
     {
-        Self {
-            colours: [0; QuadTable::CAPACITY * QuadTable::COLOURS],
-            next: 0,
+        let e = COLOURS * self.next as usize;
+        let colours = &mut self.colours[..];
+        colours[e..e + COLOURS].copy_from_slice(&s[q..q + COLOURS]);
+        self.next = self.next.wrapping_add(1);
+    }
+
+    // The entry of an opcode whose further bytes stand at s[q]: one that stores makes its colours the next entry, any other names one.
+    pub fn entry_of(&mut self, stores: bool, s: &[u8], q: usize) -> Entry
+        requires q_in_bounds { q < length s.now }
+        requires w_in_bounds { stores ≡ true → q + COLOURS ≤ length s.now }
+        ensures { Entered COLOURS self.old.colours self.old.next s.now q stores self.new.colours result.at result.rest self.new.next }
+    {
+        if stores {
+            let at = COLOURS * self.next as usize;
+            self.store(s, q);
+            return Entry {
+                at,
+                rest: q + COLOURS,
+            };
+        }
+        Entry {
+            at: COLOURS * s[q] as usize,
+            rest: q + 1,
         }
     }
-}
 
-// The octets stored in a chunk.
-#[derive(Drop)]
-pub struct OctetTable {
-    pub colours: [u8; OctetTable::CAPACITY * OctetTable::COLOURS],
-    pub next: u8,
-}
-
-impl OctetTable {
-    pub const CAPACITY: usize = 256;
-
-    // to an entry
-    pub const COLOURS: usize = 8;
-
-    // The table at the start of a chunk.
-    pub fn emptied() -> Self
-        ensures { Holds 3 result.colours result.next emptied }
+    // The colours of the entry at a place. Where they have just been stored they are read at s[q], whence they came: there a read waits for no write.
+    pub fn colours_at<'a>(&'a self, e: usize, stored: bool, s: &'a [u8], q: usize) -> &'a [u8]
+        requires e_in_bounds { e + COLOURS ≤ COLOURS * capacity }
+        requires same { stored ≡ true → (q + COLOURS ≤ length s.now) × (part s.now q COLOURS ≡ part self.now.colours e COLOURS) }
+        ensures { result.now ≡ part self.now.colours e COLOURS }
     {
-        Self {
-            colours: [0; OctetTable::CAPACITY * OctetTable::COLOURS],
-            next: 0,
+        if stored {
+            return &s[q..q + COLOURS];
         }
+        let colours = &self.colours[..];
+        &colours[e..e + COLOURS]
     }
 }
 
-// Stores the w colours at s[q] as entry `next`, and gives the number of the entry after it: after the last comes the first.
-fn store(t: &mut [u8], w: usize, next: u8, s: &[u8], q: usize) -> u8
-    requires w_bound { w ≤ 8 }
-    requires t_len { length t.old ≡ w * capacity }
-    requires w_in_bounds { q + w ≤ length s.now }
-    ensures t_after { t.new ≡ sets t.old (w * next) (part s.now q w) }
-    ensures value { result ≡ (next + 1) % capacity }
-{
-    let e = w * next as usize;
-    let mut i = 0;
-    while i < w {
-        t[e + i] = s[q + i];
-        i += 1;
-    }
-    std::num::wrapping_add_u8(next, 1)
-}
-
-// What an opcode with a table paints by: where in the table its colours stand, where in the chunk its flags, and the number of the table's
-// next entry then.
+// What an opcode with a table paints by: where in the table its colours stand, and where in the chunk its flags.
 #[derive(Clone, Copy)]
 pub struct Entry {
     pub at: usize,
     pub rest: usize,
-    pub next: u8,
 }
 
-// The entry of an opcode whose further bytes stand at s[q]: the opcode `storing` stores its w colours as the next one, any other names one.
-pub fn entry_of(
-    t: &mut [u8],
-    w: usize,
-    upper: usize,
-    storing: usize,
-    next: u8,
-    s: &[u8],
-    q: usize,
-) -> Entry
-    requires w_bound { w ≤ 8 }
-    requires t_len { length t.old ≡ w * capacity }
-    requires q_in_bounds { q < length s.now }
-    requires w_in_bounds { upper ≡ storing → q + w ≤ length s.now }
-    ensures { Entered w t.old next s.now q upper storing t.new result.at result.rest result.next }
-{
-    if upper == storing {
-        let after = store(t, w, next, s, q);
-        return Entry {
-            at: w * next as usize,
-            rest: q + w,
-            next: after,
-        };
-    }
-    Entry {
-        at: w * smc_check::wide(s[q]),
-        rest: q + 1,
-        next,
-    }
-}
+// entries of a table
+const CAPACITY: usize = 256;
 
-// The w colours at t[e]. Where they have just been stored they are read at s[q], whence they came: there a read waits for no write.
-pub fn colours_at<'a>(
-    t: &'a [u8],
-    e: usize,
-    stored: bool,
-    s: &'a [u8],
-    q: usize,
-    w: usize,
-) -> &'a [u8]
-    requires w_in_bounds { e + w ≤ length t.now }
-    requires w_in_bounds_2 { stored ≡ true → (q + w ≤ length s.now) × (part s.now q w ≡ part t.now e w) }
-    ensures { result.now ≡ part t.now e w }
-{
-    if stored {
-        return &s[q..q + w];
-    }
-    &t[e..e + w]
+const PAIRS: usize = 2 * CAPACITY;
+
+const QUADS: usize = 4 * CAPACITY;
+
+const OCTETS: usize = 8 * CAPACITY;
+
+// The pairs, the quads and the octets stored in a chunk.
+pub type PairTable = Table<2, PAIRS>;
+
+pub type QuadTable = Table<4, QUADS>;
+
+pub type OctetTable = Table<8, OCTETS>;
+
+// All three.
+#[derive(Drop)]
+pub struct Tables {
+    pub pairs: PairTable,
+    pub quads: QuadTable,
+    pub octets: OctetTable,
 }

@@ -2,12 +2,14 @@
 use Prim.Native.Nat.{ℕ, zero, suc, ◌+◌, ◌<◌, ◌≤◌}
 use mathlib.Core.Path.{◌≡◌, refl, sym, ap, ◌∙◌}
 use mathlib.Core.Logic.{◌≢◌}
-use mathlib.Core.List.{List, [], ◌∷◌, ◌++◌, map}
+use mathlib.Core.List.{List, [], ◌∷◌, ◌++◌, map, append_assoc}
 use native.Mathlib.Nat.{add-zero, add-suc, suc-add}
 use native.Mathlib.Numerals.{add-one}
 use native.Mathlib.Omega.{arith}
 use lib.ListN.{length, get_or, set, take, drop, length-drop, length-map, length-set}
-use lib.Seq.{sets, length-sets, take-suc, get_or-take, get_or-drop, get_or-set_same, get_or-set_other, length-take-le, take_at, drop_at, ext_get_or}
+use borrow.Rule.Slice.PartMut.{put_mid}
+use Rattle.std.proofs.lemmas.List.Edits.{sets-eq}
+use lib.Seq.{sets, length-sets, drop-drop, take-suc, get_or-take, get_or-drop, get_or-set_same, get_or-set_other, length-take-le, take_at, drop_at, ext_get_or}
 use Rattle.spec.specs.Basics.{from, part}
 use Rattle.spec.proofs.Lists.{get_or-rule, length_from}
 
@@ -28,6 +30,10 @@ part-listed l a w h =
     ext_get_or 0 _ _ (len ∙ sym (simp (length-map, length_from))) (λ j hj.
     let g : j < w = rw len at hj in
     part_at l a w j 0 g ∙ sym (get_or-rule (λ i. get_or l (a + i) 0) w j 0 g))
+
+-- what a slice holds after the part of it from `a` on was stored at once
+pub put_mid-sets : (l : List ℕ) (a k : ℕ) (ys vs : List ℕ) → ys ≡ vs → k ≡ length vs → a + length vs ≤ length l → put_mid a k l ys ≡ sets l a vs
+put_mid-sets l a k ys vs e ek h = rw (e, ek, sets-eq vs l a h, drop-drop) (sym (append_assoc (take a l) vs (drop (a + length vs) l)))
 
 -- a part of a mapped list
 map-take : (f : ℕ → ℕ) (w : ℕ) (l : List ℕ) → map f (take w l) ≡ take w (map f l)

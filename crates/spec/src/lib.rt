@@ -183,6 +183,8 @@ pub struct Varint {
 impl Varint {
     // the greatest value; specs/Feeds.antt has it as `max_number`
     pub const MAX: usize = 16777215;
+    // the most groups of seven bits
+    pub const GROUPS: usize = 4;
 }
 
 // What a feed says of its size, so that a board can be made for it: the answer, the size, and the place of the first chunk's length number.

@@ -1,15 +1,11 @@
 use mathlib.Core.Path.{sym, ◌∙◌}
 use Rattle.spec.proofs.Maps.{count-made, count-refused}
+use Rattle.spec.proofs.Refusals.{refused-not-ok}
 use Rattle.board_map.proofs.count_unsettled.Goals as goal
 
-pub returns-then-number-ne-OK : goal.returns-then-number-ne-OK
-returns-then-number-ne-OK c = let z = c.args.size in
-    let m = c.args.map.now in
-    let n = c.map_fault-number.ensures in
-    rw (count-refused z m (λ ok. c.if-number-ne-OK.true (n ∙ ok)), n)
+pub returns-in-Err : goal.returns-in-Err
+returns-in-Err c = let e = c.in-Err.ensures in
+    rw (count-refused c.args.size c.args.map.now (λ o. refused-not-ok _ (e ∙ o)), c.from.ensures, e)
 
 pub returns : goal.returns
-returns c = let z = c.args.size in
-    let m = c.args.map.now in
-    let ok = c.if-number-ne-OK.false in
-    rw (count-made z m (sym c.map_fault-number.ensures ∙ ok), ok, c.unsettled_entries-unsettled.ensures)
+returns c = rw (count-made c.args.size c.args.map.now (sym c.in_default.ensures), c.accepted.ensures, c.unsettled_entries.ensures)

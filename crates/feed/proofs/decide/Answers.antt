@@ -2,6 +2,7 @@ use mathlib.Core.Path.{sym, ap, ◌∙◌}
 use Rattle.spec.specs.declared.FeedSize.{FeedSize}
 use Rattle.spec.specs.Sizes.{allowed}
 use native.Mathlib.Omega.{arith}
+use borrow.Author.Tests.{eqb-true}
 use Rattle.spec.specs.Basics.{if}
 use Rattle.spec.specs.Listing.{decide}
 use Rattle.spec.proofs.Cases.{cases}
@@ -13,13 +14,13 @@ pub returns-then-feed-gt-MAX_FEED : goal.returns-then-feed-gt-MAX_FEED
 unfolding decide if
 returns-then-feed-gt-MAX_FEED c = search cases
 
-pub returns-then-answer-ne-OK : goal.returns-then-answer-ne-OK
+pub returns-then-not-is_ok : goal.returns-then-not-is_ok
 unfolding decide if
-returns-then-answer-ne-OK c = rw (← c.feed_size-own.ensures) (search cases)
+returns-then-not-is_ok c = rw (← c.feed_size-own.ensures) (search cases)
 
 pub overflow_mul-size : goal.overflow_mul-size
 overflow_mul-size c = let own = c.feed_size-own.ensures in
-    let told = ap (λ (f : FeedSize). f.answer.number) (sym own) ∙ c.if-answer-ne-OK.false in
+    let told = ap (λ (f : FeedSize). f.answer.number) (sym own) ∙ eqb-true _ _ (sym c.is_ok.ensures ∙ c.if-not-is_ok.false) in
     let fine = ap (λ (f : FeedSize). allowed f.size) own ∙ size-fine _ told in
     omega (arith, (allowed-size _ fine).small)
 

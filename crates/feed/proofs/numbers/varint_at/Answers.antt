@@ -1,22 +1,24 @@
-use mathlib.Core.Path.{sym, ap, ◌∙◌}
+use Prim.Native.Nat.{◌+◌, ◌-◌}
+use mathlib.Core.Path.{◌≡◌, sym, ap, ◌∙◌}
 use native.Mathlib.Omega.{arith}
 use Rattle.spec.specs.Feeds.{varint_says}
 use Rattle.feed.proofs.Grouping.{grouping-none, grouping-cut, grouping-last, grouping-more, grouping-end}
 use Rattle.feed.proofs.numbers.varint_at.Goals as goal
 
-pub loop-more-init : goal.loop-more-init
-loop-more-init c = grouping-none _ _
+pub loop-i-init : goal.loop-i-init
+loop-i-init c = grouping-none _ _
 
 pub returns-then-place-feed : goal.returns-then-place-feed
-returns-then-place-feed c = ap varint_says (sym (grouping-cut c.loop-more.invariant (omega arith) (omega arith)))
+returns-then-place-feed c = ap varint_says (sym (grouping-cut c.loop-i.invariant (omega arith) (omega arith)))
 
 pub returns-then-group-lt128 : goal.returns-then-group-lt128
-returns-then-group-lt128 c = let inv = c.loop-more.invariant in
+returns-then-group-lt128 c = let inv = c.loop-i.invariant in
     c.last_group.ensures ∙ ap varint_says (sym (grouping-last inv (omega arith) (omega arith) (omega arith)))
 
-pub loop-more-preserved : goal.loop-more-preserved
-loop-more-preserved c = grouping-more c.loop-more.invariant (omega arith) (omega arith) (omega arith)
-    (omega (arith, c.type_inv.feed c.loop-more.place))
+pub loop-i-preserved : goal.loop-i-preserved
+loop-i-preserved c = let less : 4 - (c.loop-i._i + 1) ≡ 4 - c.loop-i._i - 1 = omega arith in
+    rw less (grouping-more c.loop-i.invariant (omega arith) (omega arith) (omega arith)
+    (omega (arith, c.type_inv.feed c.loop-i.place)))
 
 pub returns : goal.returns
-returns c = ap varint_says (sym (grouping-end c.loop-more.invariant (omega arith)))
+returns c = ap varint_says (sym (grouping-end c.loop-i.invariant (omega arith)))

@@ -1,36 +1,33 @@
-use Rattle.std.proofs.Common.{◌*◌, ◌<◌, arith}
+use Rattle.std.proofs.Common.{◌*◌, ◌<◌, refl, arith}
 use Rattle.smc.proofs.Going.{begins, opens, continues, less, paints}
 use Rattle.smc.proofs.paint.paint.Goals as goal
 
-pub loop-k-init : goal.loop-k-init
-loop-k-init c = begins _ _ _ _ _ c.requires.accepts c.requires.lent _ _ _ _ _ _ c.emptied-pairs.ensures c.emptied-quads.ensures c.emptied-octets.ensures
+pub loop-from-init : goal.loop-from-init
+loop-from-init c =
+    begins _ _ _ _ _ c.requires.accepts c.requires.lent _ (c.emptied.ensures 1 refl) (c.emptied-2.ensures 2 refl) (c.emptied-3.ensures 3 refl)
 
-pub turn-m-requires-clause-room : goal.turn-m-requires-clause-room
-turn-m-requires-clause-room c = let g = c.loop-k.invariant in
-    let e = c.requires.lent.entries in
-    let l : c.loop-k.k < c.args.c * c.args.r = omega arith in
-    let o = opens _ _ _ _ _ c.requires.accepts _ _ _ _ _ _ _ _ _ _ g l in
-    o.room
+pub turn-from-requires-clause-room : goal.turn-from-requires-clause-room
+turn-from-requires-clause-room c = let e = c.requires.lent.entries in
+    let l : c.loop-from.from.k < c.args.grid.columns * c.args.grid.lines = omega arith in
+    (opens _ _ _ _ _ c.requires.accepts _ _ _ _ _ c.loop-from.invariant l).room
 
-pub loop-k-smaller : goal.loop-k-smaller
-loop-k-smaller c = let g = c.loop-k.invariant in
-    let e = c.requires.lent.entries in
-    let l : c.loop-k.k < c.args.c * c.args.r = omega arith in
-    let t = less _ _ _ _ _ c.requires.accepts _ _ _ _ _ _ _ _ _ _ g l _ _ _ _ _ _ _ _ _ _ c.turn-m.ensures in
+pub loop-from-smaller : goal.loop-from-smaller
+loop-from-smaller c = let e = c.requires.lent.entries in
+    let l : c.loop-from.from.k < c.args.grid.columns * c.args.grid.lines = omega arith in
+    let t = less _ _ _ _ _ c.requires.accepts _ _ _ _ _ c.loop-from.invariant l _ _ _ _ _ c.turn-from.ensures in
     let p = t.0 in
     let q = t.1 in
     omega arith
 
-pub loop-k-preserved : goal.loop-k-preserved
-loop-k-preserved c = let g = c.loop-k.invariant in
-    let e = c.requires.lent.entries in
-    let l : c.loop-k.k < c.args.c * c.args.r = omega arith in
-    continues _ _ _ _ _ c.requires.accepts _ _ _ _ _ _ _ _ _ _ g l _ _ _ _ _ _ _ _ _ _ c.turn-m.ensures (omega arith) (omega arith)
+pub loop-from-preserved : goal.loop-from-preserved
+loop-from-preserved c = let e = c.requires.lent.entries in
+    let l : c.loop-from.from.k < c.args.grid.columns * c.args.grid.lines = omega arith in
+    continues _ _ _ _ _ c.requires.accepts _ _ _ _ _ c.loop-from.invariant l _ _ _ _ _ c.turn-from.ensures (omega arith) (omega arith)
 
 pub returns-clause-pic_after : goal.returns-clause-pic_after
 returns-clause-pic_after c = let e = c.requires.lent.entries in
-    (paints _ _ _ _ _ c.requires.accepts _ _ _ _ _ _ _ _ _ _ c.loop-k.invariant (omega arith)).0
+    (paints _ _ _ _ _ c.requires.accepts _ _ _ _ _ c.loop-from.invariant (omega arith)).0
 
 pub returns-clause-map_after : goal.returns-clause-map_after
 returns-clause-map_after c = let e = c.requires.lent.entries in
-    (paints _ _ _ _ _ c.requires.accepts _ _ _ _ _ _ _ _ _ _ c.loop-k.invariant (omega arith)).1
+    (paints _ _ _ _ _ c.requires.accepts _ _ _ _ _ c.loop-from.invariant (omega arith)).1

@@ -1,4 +1,5 @@
-use Rattle.std.proofs.Common.{sym, refl, one-mul, arith}
+use Rattle.std.proofs.Common.{ℕ, List, sym, refl, ap, ◌∙◌, one-mul, arith}
+use Rattle.smc.specs.Runs.{puts}
 use Rattle.spec.specs.Chunks.{skip, fill, copy}
 use Rattle.smc.proofs.Making.{ran-skip, ran-copy, ran-fill}
 use Rattle.smc.proofs.Opcodes.{facts-two, kind-two}
@@ -7,15 +8,17 @@ use Rattle.smc.proofs.paint.plain_op.Goals as goal
 pub returns-then-lead-ge6 : goal.returns-then-lead-ge6
 returns-then-lead-ge6 c = let a = c.args in
     let el = c.lead_at-lead.ensures in
-    ran-fill a.c a.r c.requires.lent.canvas.wide a.s.now a.at a.k _ _ c.requires.room.within _ el.count _ el.body
+    ran-fill a.grid.columns a.grid.lines c.requires.lent.canvas.wide a.s.now a.from.at a.from.k _ _ c.requires.room.within _ el.count _ el.body
     (kind-two c.requires.room c.lead_at-lead.ensures 6 fill c.if-lead-ge6.true
     (omega (arith, c.lead_at-lead.ensures.upper, c.requires.at_bound)) refl refl) _ _
-    c.fill_run.ensures.pic_after c.fill_run.ensures.map_after
+    (c.put_run.ensures.pic_after
+    ∙ ap (λ (px : List ℕ). puts a.grid.columns a.from.k (λ i. px) c.lead_at-lead.result.count a.pic.now) c.of_colour.ensures)
+    c.put_run.ensures.map_after
 
 pub returns-then-lead-ge4 : goal.returns-then-lead-ge4
 returns-then-lead-ge4 c = let a = c.args in
     let el = c.lead_at-lead.ensures in
-    ran-copy a.c a.r c.requires.lent.canvas.wide a.s.now a.at a.k _ _ c.requires.room.within _ el.count _ el.body 2 (omega arith)
+    ran-copy a.grid.columns a.grid.lines c.requires.lent.canvas.wide a.s.now a.from.at a.from.k _ _ c.requires.room.within _ el.count _ el.body 2 (omega arith)
     (kind-two c.requires.room c.lead_at-lead.ensures 4 (copy 2) c.if-lead-ge4.true
     (omega (arith, c.if-lead-ge6.false)) refl refl)
     (omega (
@@ -28,7 +31,7 @@ returns-then-lead-ge4 c = let a = c.args in
 pub returns-then-lead-ge2 : goal.returns-then-lead-ge2
 returns-then-lead-ge2 c = let a = c.args in
     let el = c.lead_at-lead.ensures in
-    ran-copy a.c a.r c.requires.lent.canvas.wide a.s.now a.at a.k _ _ c.requires.room.within _ el.count _ el.body 1 (omega arith)
+    ran-copy a.grid.columns a.grid.lines c.requires.lent.canvas.wide a.s.now a.from.at a.from.k _ _ c.requires.room.within _ el.count _ el.body 1 (omega arith)
     (kind-two c.requires.room c.lead_at-lead.ensures 2 (copy 1) c.if-lead-ge2.true
     (omega (arith, c.if-lead-ge4.false)) refl refl)
     (omega (
@@ -41,5 +44,5 @@ returns-then-lead-ge2 c = let a = c.args in
 pub returns : goal.returns
 returns c = let a = c.args in
     let el = c.lead_at-lead.ensures in
-    ran-skip a.c a.r c.requires.lent.canvas.wide a.s.now a.at a.k _ _ c.requires.room.within _ el.count _ el.body
+    ran-skip a.grid.columns a.grid.lines c.requires.lent.canvas.wide a.s.now a.from.at a.from.k _ _ c.requires.room.within _ el.count _ el.body
     (kind-two c.requires.room c.lead_at-lead.ensures 0 skip (omega arith) (omega (arith, c.if-lead-ge2.false)) refl refl)

@@ -1,6 +1,0 @@
-use Rattle.std.proofs.Common.{rules}
-use Rattle.smc.proofs.Held.{holds-emptied}
-use Rattle.smc.proofs.tables.PairTable.emptied.Goals as goal
-
-pub returns : goal.returns
-returns c = holds-emptied 1 _ (search rules)
