@@ -17,4 +17,6 @@ all-zero (b ∷ bs) = rw (all-zero bs)
 
 pub padding-zeros : (s : List ℕ) (at : ℕ) → length s ≤ at + max_padding → list_all (λ x. eqb x 0) (take (length s - at) (drop at s)) ≡ padding (drop at s)
 unfolding padding
-padding-zeros s at h = rw (take_all (length s - at) (drop at s) (rw length-drop (omega arith)), le-leb (length (drop at s)) max_padding (rw length-drop (omega arith)), all-zero (drop at s))
+padding-zeros s at h =
+    let few : length (drop at s) ≤ max_padding = rw length-drop (omega arith) in
+    rw (take_all (length s - at) (drop at s) (rw length-drop (omega arith)), le-leb (length (drop at s)) max_padding few, all-zero (drop at s))

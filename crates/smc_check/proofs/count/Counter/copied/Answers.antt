@@ -32,7 +32,8 @@ returns-then-run-lt4 c = let a = c.args in
 
 pub overflow_add-result-3 : goal.overflow_add-result-3
 overflow_add-result-3 c = let a = c.args in
-    let p = pairs_small a.run.blocks c.from-2.result c.from-3.result (rw (c.from-2.ensures, byte-bit) (bit-small _)) (rw (c.from-3.ensures, byte-bit) (bit-small _)) in
+    let p = pairs_small a.run.blocks c.from-2.result c.from-3.result (rw (c.from-2.ensures, byte-bit) (bit-small _))
+    (rw (c.from-3.ensures, byte-bit) (bit-small _)) in
     let most = now-most a.self.map.now a.run.first a.self.t c.requires.tallied (omega (arith, c.requires.fits)) in
     omega (arith, p, most, c.requires.fits, a.self.map_fits)
 
