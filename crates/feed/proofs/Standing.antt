@@ -4,7 +4,6 @@ use mathlib.Core.Path.{◌≡◌, refl}
 use mathlib.Core.List.{List, [], ◌∷◌}
 use lib.ListN.{length}
 use borrow.Author.Tests.{lt-ltb, le-ltb}
-use Rattle.spec.specs.Feeds.{Varint}
 use Rattle.spec.specs.Feeds.Varint.{Bad, Value}
 use Rattle.spec.specs.Basics.{if}
 use Rattle.spec.specs.declared.Refusal.{Refusal}

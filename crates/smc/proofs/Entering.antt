@@ -1,10 +1,10 @@
 -- An opcode with a table, by the entry that it stores or names: one law for both. Assumes nothing.
-use Rattle.std.proofs.Common.{◌≡◌, ℕ, zero, suc, ◌+◌, ◌-◌, ◌*◌, ◌<◌, ◌≤◌, Bool, true, false, eqb, List, length, get_or, take, drop, sym, refl, ap, ◌∙◌, one-mul, arith, pow_pos, eqb-true, eq-eqb, ne_eqb}
+use Rattle.std.proofs.Common.{◌≡◌, ℕ, zero, suc, ◌+◌, ◌*◌, ◌<◌, ◌≤◌, Bool, true, false, eqb, List, length, get_or, sym, refl, ap, ◌∙◌, one-mul, arith, pow_pos, eqb-true, eq-eqb, ne_eqb}
 use native.Mathlib.Decide.{ℕ_discrete}
 use lib.Seq.{length-sets}
 use Rattle.spec.specs.Basics.{part}
 use Rattle.spec.specs.Flags.{flags, chosen}
-use Rattle.spec.specs.Chunks.{kind_of, store, named, capacity, upper_at}
+use Rattle.spec.specs.Chunks.{capacity, upper_at}
 use Rattle.spec.proofs.Cells.{entry-room}
 use Rattle.spec.proofs.Parts.{length_part, part-sets}
 use Rattle.smc_check.specs.declared.heads.Lead.{Lead}

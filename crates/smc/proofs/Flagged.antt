@@ -1,5 +1,5 @@
 -- A block's pixels by its flags, row by row. Assumes nothing.
-use Rattle.std.proofs.Common.{◌≡◌, ℕ, ◌+◌, ◌/◌, ◌%◌, ◌<◌, ◌≤◌, List, [], ◌∷◌, ◌++◌, length, get_or, sym, ◌∙◌, arith}
+use Rattle.std.proofs.Common.{◌≡◌, ℕ, ◌/◌, ◌%◌, ◌<◌, List, [], ◌∷◌, ◌++◌, length, get_or, sym, ◌∙◌, arith}
 use lib.Seq.{take-length}
 use mathlib.Core.List.{map-append}
 use Rattle.spec.specs.Basics.{part}

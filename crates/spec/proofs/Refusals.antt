@@ -1,6 +1,4 @@
 -- A refusal is never 0. Assumes nothing.
-use Prim.Native.Nat.{ℕ}
-use mathlib.Core.Path.{◌≡◌}
 use mathlib.Core.Logic.{◌≢◌}
 use native.Mathlib.Omega.{arith}
 use Rattle.spec.specs.declared.Refusal.{Refusal}

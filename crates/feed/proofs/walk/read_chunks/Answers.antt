@@ -1,6 +1,5 @@
 use mathlib.Core.Path.{sym, ap, ◌∙◌}
 use borrow.Author.Tests.{eqb-true, eqb-false}
-use native.Mathlib.Omega.{arith}
 use Rattle.spec.specs.Boards.{Board}
 use Rattle.feed.proofs.Walking.{counted-more, counted_same, walking_on, walking-over, walking-left}
 use Rattle.feed.proofs.walk.read_chunks.Goals as goal

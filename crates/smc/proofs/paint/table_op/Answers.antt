@@ -1,10 +1,10 @@
-use Rattle.std.proofs.Common.{◌≡◌, ◌≤◌, ◌<◌, ◌+◌, ◌*◌, ℕ, List, true, eqb, length, sym, ap, subst, ◌∙◌, eqb-true, arith}
+use Rattle.std.proofs.Common.{◌≡◌, ◌≤◌, ◌<◌, ◌+◌, ◌*◌, ℕ, List, true, eqb, length, ap, subst, ◌∙◌, eqb-true, arith}
 use Rattle.spec.specs.Basics.{part}
 use Rattle.spec.specs.Flags.{flags, chosen}
 use Rattle.spec.proofs.Parts.{length_part}
 use Rattle.smc.specs.Runs.{puts}
-use Rattle.smc.specs.Tables.{colours, size, Entered}
-use Rattle.smc.proofs.Entering.{entered-as, few-colours, entry_whole, entry_first, entry-stored, entry-room-left, entry-inside, entry-within, entry-tabled}
+use Rattle.smc.specs.Tables.{colours, size}
+use Rattle.smc.proofs.Entering.{entered-as, few-colours, entry_whole, entry_first, entry-stored, entry-room-left, entry-inside, entry-tabled}
 use Rattle.smc.proofs.paint.table_op.Goals as goal
 
 pub entry_of-entry-requires : goal.entry_of-entry-requires

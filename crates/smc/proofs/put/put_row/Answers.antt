@@ -1,4 +1,3 @@
-use Rattle.std.proofs.Common.{rules, ◌∙◌}
 use Rattle.blocks.specs.Blocks.{row_of}
 use Rattle.smc.proofs.put.put_row.Goals as goal
 

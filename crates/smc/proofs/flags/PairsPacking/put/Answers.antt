@@ -1,4 +1,4 @@
-use Rattle.std.proofs.Common.{◌≡◌, ℕ, List, [], ◌∷◌, get_or, ap, ◌∙◌, arith}
+use Rattle.std.proofs.Common.{ℕ, List, [], ◌∷◌, get_or, ap, ◌∙◌, arith}
 use Rattle.spec.specs.Flags.{flags, chosen}
 use Rattle.spec.specs.Pictures.{put_block}
 use Rattle.blocks.specs.Blocks.{pixels}
