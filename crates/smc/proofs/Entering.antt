@@ -1,5 +1,5 @@
 -- An opcode with a table, by the entry that it stores or names: one law for both. Assumes nothing.
-use Rattle.std.proofs.Common.{◌≡◌, ℕ, zero, suc, ◌+◌, ◌-◌, ◌*◌, ◌<◌, ◌≤◌, true, eqb, ◌≢◌, List, length, get_or, take, drop, sym, refl, ap, ◌∙◌, one-mul, arith, pow_pos, eqb-true}
+use Rattle.std.proofs.Common.{◌≡◌, ℕ, zero, suc, ◌+◌, ◌-◌, ◌*◌, ◌<◌, ◌≤◌, Bool, true, false, eqb, List, length, get_or, take, drop, sym, refl, ap, ◌∙◌, one-mul, arith, pow_pos, eqb-true, eq-eqb, ne_eqb}
 use native.Mathlib.Decide.{ℕ_discrete}
 use lib.Seq.{length-sets}
 use Rattle.spec.specs.Basics.{part}
@@ -17,18 +17,18 @@ use Rattle.smc.proofs.Making.{tabled-store, tabled-named}
 use Rattle.smc.proofs.Opcodes.{kind-of, kind-other, facts-of, facts-other}
 
 -- the table stays as long as it was
-pub entered-length : {w : ℕ} {l : List ℕ} {next : ℕ} {s : List ℕ} {q u v : ℕ} {l' : List ℕ} {e rest next' : ℕ} → Entered w l next s q u v l' e rest next'
-    → length l' ≡ length l
-entered-length {w} {l} {next} {s} {q} {u} {v} {l'} en = by (ℕ_discrete u v)
+pub entered-length : {w : ℕ} {l : List ℕ} {next : ℕ} {s : List ℕ} {q : ℕ} {t : Bool} {l' : List ℕ} {e rest next' : ℕ}
+    → Entered w l next s q t l' e rest next' → length l' ≡ length l
+entered-length {w} {l} {next} {s} {q} {t} {l'} en = by t refl
   where
-    by : Dec (u ≡ v) → length l' ≡ length l
-    by (yes h) = ap length (en.stored h).0 ∙ length-sets l (w * next) (part s q w)
-    by (no h) = ap length (en.named h).0
+    by : (b : Bool) → t ≡ b → length l' ≡ length l
+    by true h = ap length (en.stored h).0 ∙ length-sets l (w * next) (part s q w)
+    by false h = ap length (en.named h).0
 
 -- the code's numbers are those of a table of x bits
-pub entered-as : (x : ℕ) {w v u : ℕ} {l : List ℕ} {next : ℕ} {s : List ℕ} {q p : ℕ} {l' : List ℕ} {e rest next' : ℕ} → w ≡ colours x → v ≡ u
-    → Entered w l next s q p v l' e rest next' → Entered (colours x) l next s q p u l' e rest next'
-entered-as x ew ev en = rw (← ew, ← ev) en
+pub entered-as : (x : ℕ) {w : ℕ} {t t' : Bool} {l : List ℕ} {next : ℕ} {s : List ℕ} {q : ℕ} {l' : List ℕ} {e rest next' : ℕ} → w ≡ colours x → t ≡ t'
+    → Entered w l next s q t l' e rest next' → Entered (colours x) l next s q t' l' e rest next'
+entered-as x ew et en = rw (← ew, ← et) en
 
 -- an entry has eight colours at most
 pub few-colours : {x u : ℕ} → Stores x u → colours x ≤ 8
@@ -57,16 +57,15 @@ module _ {x u : ℕ} (table : Stores x u) (c r : ℕ) {s : List ℕ} {at k : ℕ
       by (yes q) = omega (arith, rw table.stores at (facts-of g el q).within)
       by (no q) = omega (arith, rw table.names at (facts-other g el q h).within)
 
-  module _ {l : List ℕ} {next : ℕ} {l' : List ℕ} {e rest next' : ℕ} (en : Entered (colours x) l next s lead.body lead.upper u l' e rest next') where
+  module _ {l : List ℕ} {next : ℕ} {l' : List ℕ} {e rest next' : ℕ} (en : Entered (colours x) l next s lead.body (eqb lead.upper u) l' e rest next') where
     -- what has just been stored is there to be read
     pub entry-stored : length l ≡ size x → next < capacity → eqb lead.upper u ≡ true
         → (lead.body + colours x ≤ length s) × (part s lead.body (colours x) ≡ part l' e (colours x))
     entry-stored room byte t =
-        let q = eqb-true lead.upper u t in
-        let w = entry_whole q in
+        let w = entry_whole (eqb-true lead.upper u t) in
         let f = length_part s lead.body (colours x) w in (
           w,
-          sym (rw ((en.stored q).0, (en.stored q).1)
+          sym (rw ((en.stored t).0, (en.stored t).1)
               (part-sets l (colours x * next) (part s lead.body (colours x)) (colours x) f (omega (arith, entry-room (colours x) next capacity byte)))),
         )
 
@@ -77,8 +76,8 @@ module _ {x u : ℕ} (table : Stores x u) (c r : ℕ) {s : List ℕ} {at k : ℕ
     entry-inside = by (ℕ_discrete lead.upper u)
       where
         by : Dec (lead.upper ≡ u) → rest + 2 * x * lead.count ≤ length s
-        by (yes q) = rw (en.stored q).2 (rw (table.stores, one-mul lead.count) at (facts-of g el q).inside)
-        by (no q) = rw (en.named q).2 (rw (table.names, one-mul lead.count) at (facts-other g el q h).inside)
+        by (yes q) = rw (en.stored (eq-eqb _ _ q)).2 (rw (table.stores, one-mul lead.count) at (facts-of g el q).inside)
+        by (no q) = rw (en.named (ne_eqb _ _ q)).2 (rw (table.names, one-mul lead.count) at (facts-other g el q h).inside)
 
     pub entry-tabled : 0 < c → length l ≡ size x → next < capacity → (pic m pic' m' : List ℕ)
         → pic' ≡ puts c k (λ i. chosen (flags x (part s (rest + 2 * x * i) (2 * x))) (part l' e (colours x))) lead.count pic
@@ -88,13 +87,13 @@ module _ {x u : ℕ} (table : Stores x u) (c r : ℕ) {s : List ℕ} {at k : ℕ
       where
         by : Dec (lead.upper ≡ u) → Tabled x c r s at k pic m l next pic' m' l' (rest + 2 * x * lead.count) (k + lead.count) next'
         by (yes q) =
-            let t = en.stored q in
+            let t = en.stored (eq-eqb _ _ q) in
             tabled-store x table.some table.most c r wide s at k pic m l next g.within lead.count el.count lead.body
             el.body rest pic' m' em
             (kind-of g el q ∙ table.stores) t.2 (entry_whole q) (omega (arith, entry-room (colours x) next capacity byte)) l' t.0 (rw (← t.1) ep) next'
             t.3
         by (no q) =
-            let t = en.named q in
+            let t = en.named (ne_eqb _ _ q) in
             rw (t.0, t.3)
             (tabled-named x table.some table.most c r wide s at k pic m l next g.within lead.count el.count lead.body
             el.body rest pic' m' em

@@ -73,12 +73,12 @@ fn table_op<P: Packing, const COLOURS: usize, const ALL: usize>(
     ensures { Tabled P.bits grid.columns grid.lines s.now from.at from.k pic.old map.old table.old.colours table.old.next pic.new map.new table.new.colours result.at result.k table.new.next }
 {
     let lead = smc_check::lead_at(s, from.at);
-    let entry = table.entry_of(lead.upper, P::STORING, s, lead.body);
-    let stored = lead.upper == P::STORING;
+    let stores = lead.upper == P::STORING;
+    let entry = table.entry_of(stores, s, lead.body);
     let run = ByFlags {
         packing,
         blocks: lead.count,
-        entry: table.colours_at(entry.at, stored, s, lead.body),
+        entry: table.colours_at(entry.at, stores, s, lead.body),
         s,
         at: entry.rest,
     };

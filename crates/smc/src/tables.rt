@@ -28,7 +28,7 @@ impl<const COLOURS: usize, const ALL: usize> Table<COLOURS, ALL> {
     // Stores the colours at s[q] as the next entry; after the last comes the first.
     fn store(&mut self, s: &[u8], q: usize)
         requires { q + COLOURS ≤ length s.now }
-        ensures colours_after { self.new.colours ≡ sets self.old.colours (COLOURS * self.old.next) (part s.now q (COLOURS)) }
+        ensures colours_after { self.new.colours ≡ sets self.old.colours (COLOURS * self.old.next) (part s.now q COLOURS) }
         ensures next_after { self.new.next ≡ (self.old.next + 1) % capacity }
     {
         let e = COLOURS * self.next as usize;
@@ -37,13 +37,13 @@ impl<const COLOURS: usize, const ALL: usize> Table<COLOURS, ALL> {
         self.next = self.next.wrapping_add(1);
     }
 
-    // The entry of an opcode whose further bytes stand at s[q]: the opcode `storing` stores its colours as the next one, any other names one.
-    pub fn entry_of(&mut self, upper: usize, storing: usize, s: &[u8], q: usize) -> Entry
+    // The entry of an opcode whose further bytes stand at s[q]: one that stores makes its colours the next entry, any other names one.
+    pub fn entry_of(&mut self, stores: bool, s: &[u8], q: usize) -> Entry
         requires q_in_bounds { q < length s.now }
-        requires w_in_bounds { upper ≡ storing → q + COLOURS ≤ length s.now }
-        ensures { Entered (COLOURS) self.old.colours self.old.next s.now q upper storing self.new.colours result.at result.rest self.new.next }
+        requires w_in_bounds { stores ≡ true → q + COLOURS ≤ length s.now }
+        ensures { Entered COLOURS self.old.colours self.old.next s.now q stores self.new.colours result.at result.rest self.new.next }
     {
-        if upper == storing {
+        if stores {
             let at = COLOURS * self.next as usize;
             self.store(s, q);
             return Entry {
@@ -60,8 +60,8 @@ impl<const COLOURS: usize, const ALL: usize> Table<COLOURS, ALL> {
     // The colours of the entry at a place. Where they have just been stored they are read at s[q], whence they came: there a read waits for no write.
     pub fn colours_at<'a>(&'a self, e: usize, stored: bool, s: &'a [u8], q: usize) -> &'a [u8]
         requires e_in_bounds { e + COLOURS ≤ COLOURS * capacity }
-        requires same { stored ≡ true → (q + COLOURS ≤ length s.now) × (part s.now q (COLOURS) ≡ part self.now.colours e (COLOURS)) }
-        ensures { result.now ≡ part self.now.colours e (COLOURS) }
+        requires same { stored ≡ true → (q + COLOURS ≤ length s.now) × (part s.now q COLOURS ≡ part self.now.colours e COLOURS) }
+        ensures { result.now ≡ part self.now.colours e COLOURS }
     {
         if stored {
             return &s[q..q + COLOURS];

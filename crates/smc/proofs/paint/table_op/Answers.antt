@@ -1,4 +1,4 @@
-use Rattle.std.proofs.Common.{◌≡◌, ◌≤◌, ◌<◌, ◌+◌, ◌*◌, ℕ, List, true, eqb, length, sym, ap, subst, ◌∙◌, arith}
+use Rattle.std.proofs.Common.{◌≡◌, ◌≤◌, ◌<◌, ◌+◌, ◌*◌, ℕ, List, true, eqb, length, sym, ap, subst, ◌∙◌, eqb-true, arith}
 use Rattle.spec.specs.Basics.{part}
 use Rattle.spec.specs.Flags.{flags, chosen}
 use Rattle.spec.proofs.Parts.{length_part}
@@ -14,8 +14,8 @@ entry_of-entry-requires g c =
     let el = c.lead_at-lead.ensures in
     let few = few-colours st in
     let q : c.lead_at-lead.result.body < length c.args.s.now = entry_first st _ _ room el c.requires.bound in
-    let w : c.lead_at-lead.result.upper ≡ c.STORING.result → c.lead_at-lead.result.body + g.row.COLOURS ≤ length c.args.s.now
-    = λ e. rw c.requires.table_of (entry_whole st _ _ room el c.requires.bound (e ∙ c.STORING.ensures)) in
+    let w : eqb c.lead_at-lead.result.upper c.STORING.result ≡ true → c.lead_at-lead.result.body + g.row.COLOURS ≤ length c.args.s.now
+    = λ t. rw c.requires.table_of (entry_whole st _ _ room el c.requires.bound (eqb-true _ _ t ∙ c.STORING.ensures)) in
     (omega (arith, few, c.requires.table_of, c.args.table.now.all), (q, w))
 
 pub colours_at-requires : goal.colours_at-requires
@@ -23,13 +23,13 @@ colours_at-requires g c =
     let st = g.met.P.Packing.stores in
     let el = c.lead_at-lead.ensures in
     let few = few-colours st in
-    let en = entered-as _ c.requires.table_of c.STORING.ensures c.entry_of-entry.ensures in
+    let en = entered-as _ c.requires.table_of (ap (eqb c.lead_at-lead.result.upper) c.STORING.ensures) c.entry_of-entry.ensures in
     let all : length c.args.table.now.colours ≡ size g.P.Packing.bits = omega (arith, c.requires.table_of, c.args.table.now.all) in (
       omega (arith, few, c.requires.table_of, c.args.table.now.all),
       (
         rw c.requires.table_of en.room,
         λ t.
-            rw c.requires.table_of (entry-stored st _ _ c.requires.room el c.requires.bound en all (omega arith) (rw c.STORING-2.ensures at t)),
+            rw c.requires.table_of (entry-stored st _ _ c.requires.room el c.requires.bound en all (omega arith) (rw c.STORING.ensures at t)),
       ),
     )
 
@@ -37,7 +37,7 @@ pub invariant_of-run-clause-exact : goal.invariant_of-run-clause-exact
 invariant_of-run-clause-exact g c =
     let st = g.met.P.Packing.stores in
     let el = c.lead_at-lead.ensures in
-    let en = entered-as _ c.requires.table_of c.STORING.ensures c.entry_of-entry.ensures in
+    let en = entered-as _ c.requires.table_of (ap (eqb c.lead_at-lead.result.upper) c.STORING.ensures) c.entry_of-entry.ensures in
     let all : length c.args.table.now.colours ≡ size g.P.Packing.bits = omega (arith, c.requires.table_of, c.args.table.now.all) in
     let l = c.entry_of-entry.new.self.colours in
     let at = c.entry_of-entry.result.at in
@@ -48,14 +48,14 @@ pub invariant_of-run-clause-inside : goal.invariant_of-run-clause-inside
 invariant_of-run-clause-inside g c =
     let st = g.met.P.Packing.stores in
     let el = c.lead_at-lead.ensures in
-    let en = entered-as _ c.requires.table_of c.STORING.ensures c.entry_of-entry.ensures in
+    let en = entered-as _ c.requires.table_of (ap (eqb c.lead_at-lead.result.upper) c.STORING.ensures) c.entry_of-entry.ensures in
     rw g.met.P.Packing.flags_are (entry-inside st _ _ c.requires.room el c.requires.bound en)
 
 pub returns : goal.returns
 returns g c =
     let st = g.met.P.Packing.stores in
     let el = c.lead_at-lead.ensures in
-    let en = entered-as _ c.requires.table_of c.STORING.ensures c.entry_of-entry.ensures in
+    let en = entered-as _ c.requires.table_of (ap (eqb c.lead_at-lead.result.upper) c.STORING.ensures) c.entry_of-entry.ensures in
     let all : length c.args.table.now.colours ≡ size g.P.Packing.bits = omega (arith, c.requires.table_of, c.args.table.now.all) in
     let per = c.FLAGS.ensures ∙ g.met.P.Packing.flags_are in
     let shown : ℕ → List ℕ → Type 0

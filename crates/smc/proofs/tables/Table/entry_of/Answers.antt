@@ -1,4 +1,4 @@
-use Rattle.std.proofs.Common.{◌<◌, get_or, refl, arith}
+use Rattle.std.proofs.Common.{◌<◌, get_or, refl, sym, ◌∙◌, true≢false, arith}
 use Rattle.spec.proofs.Cells.{entry-room}
 use Rattle.spec.specs.Chunks.{capacity}
 use Rattle.smc.proofs.tables.Table.entry_of.Goals as goal
@@ -6,12 +6,12 @@ use Rattle.smc.proofs.tables.Table.entry_of.Goals as goal
 pub overflow_mul-at : goal.overflow_mul-at
 overflow_mul-at n c = omega (arith, entry-room n.row.COLOURS c.args.self.now.next capacity (omega arith), c.args.self.now.all, n.ALL.fits)
 
-pub returns-then-upper-storing : goal.returns-then-upper-storing
-returns-then-upper-storing n c =
+pub returns-then-stores : goal.returns-then-stores
+returns-then-stores n c =
     let room = entry-room n.row.COLOURS c.args.self.now.next capacity (omega arith) in
     record {
       stored = λ e. (c.store.ensures.colours_after, refl, refl, c.store.ensures.next_after);
-      named = λ ne. absurd (ne c.if-upper-storing.true);
+      named = λ no. absurd (true≢false (sym c.if-stores.true ∙ no));
       room = room;
     }
 
@@ -24,7 +24,7 @@ pub returns : goal.returns
 returns n c =
     let byte : get_or c.args.s.now c.args.q 0 < capacity = omega (arith, c.type_inv.s c.args.q) in
     record {
-      stored = λ e. absurd (c.if-upper-storing.false e);
+      stored = λ yes. absurd (true≢false (sym yes ∙ c.if-stores.false));
       named = λ ne. (refl, refl, refl, refl);
       room = entry-room n.row.COLOURS _ capacity byte;
     }
