@@ -111,17 +111,6 @@ pub open_in-part : (m : List ℕ) (lo hi : ℕ) → lo ≤ hi → hi ≤ length 
 open_in-part m lo hi a b = open_in-slice m lo (hi - lo) (omega (arith, a, b))
 
 -- the first i of some entries, and one more
-pub unsettled-more : (m : List ℕ) (i : ℕ) → i < length m → unsettled (take (i + 1) m) ≡ unsettled (take i m) + is_open (get_or m i 0)
-unsettled-more [] i h = absurd (omega (arith, h))
-unsettled-more (x ∷ m) zero h = omega arith
-unsettled-more (x ∷ m) (suc i) h =
-    let rest = rw add-one at (unsettled-more m i (omega (arith, h))) in
-    rw add-one (omega (arith, rest))
-
-pub unsettled-few : (m : List ℕ) (i : ℕ) → unsettled (take i m) ≤ i
-unsettled-few m zero = omega arith
-unsettled-few [] (suc i) = omega arith
-unsettled-few (x ∷ m) (suc i) = let one = open-small x in let rest = unsettled-few m i in omega (arith, one, rest)
 
 -- what has been made, with more at the end
 unsettled-append : (xs ys : List ℕ) → unsettled (xs ++ ys) ≡ unsettled xs + unsettled ys

@@ -53,16 +53,7 @@ map-part f l a w = map-take f w (drop a l) ∙ ap (take w) (map-drop f a l)
 part-more : (l : List ℕ) (a i : ℕ) → a + i < length l → part l a (suc i) ≡ part l a i ++ get_or l (a + i) 0 ∷ []
 part-more l a i h = take-suc (drop a l) i 0 (rw length-drop (omega arith)) ∙ rw get_or-drop
 
--- a run of stores: one more at the end, elsewhere, and in its own place
-pub sets_more : (vs l : List ℕ) (i v : ℕ) → sets l i (vs ++ v ∷ []) ≡ set (sets l i vs) (i + length vs) v
-sets_more [] l i v = rw (add-zero i)
-sets_more (x ∷ vs) l i v = sets_more vs (set l i x) (suc i) v ∙ rw (add-suc i (length vs), suc-add i (length vs))
-
-pub sets-step : (t₀ t s : List ℕ) (e q i : ℕ) → q + i < length s → t ≡ sets t₀ e (part s q i) → set t (e + i) (get_or s (q + i) 0) ≡ sets t₀ e (part s q (i + 1))
-sets-step t₀ t s e q i h g =
-    let l = length_part s q i (omega arith) in
-    rw (add-one, part-more s q i h, sets_more (part s q i) t₀ e (get_or s (q + i) 0), l, g)
-
+-- a run of stores: elsewhere, and in its own place
 pub sets-out : (l : List ℕ) (i : ℕ) (vs : List ℕ) (p d : ℕ) → ((j : ℕ) → j < length vs → p ≢ i + j) → get_or (sets l i vs) p d ≡ get_or l p d
 sets-out l i [] p d h = refl
 sets-out l i (v ∷ vs) p d h =

@@ -3,7 +3,8 @@ use mathlib.Core.Path.{◌≡◌, ◌∙◌}
 use native.Mathlib.Omega.{arith}
 use lib.ListN.{get_or}
 use Rattle.smc_check.specs.Tallying.{is_open}
-use Rattle.smc_check.proofs.Tallies.{byte-bit, bit-open, unsettled-more, unsettled-few}
+use Rattle.spec.proofs.Maps.{unsettled-more, unsettled-few}
+use Rattle.smc_check.proofs.Tallies.{byte-bit, bit-open}
 use Rattle.smc_check.proofs.count.unsettled_in.Goals as goal
 
 pub overflow_add-n : goal.overflow_add-n
