@@ -117,7 +117,8 @@ impl Opcode<'_> {
         }
     }
 
-    // Whichever it is. Those that come most often stand last: that is the order that is guessed best at run time.
+    // Whichever it is. Those that come most often stand last: that is the order that is guessed best at run time. By an `if` each, since each kind of
+    // opcode works on a table of another type: closures would have to hold what is lent here.
     fn paint(&self, pairs: &Pairs, pic: &mut [u8], map: &mut [u16], tables: &mut Tables) -> Place
         requires lent { Lent self.now.grid.columns self.now.grid.lines pic.old map.old }
         ensures { Turned self.now.grid.columns self.now.grid.lines self.now.s.now self.now.at self.now.k tables.old pic.old map.old result.at result.k tables.new pic.new map.new }
