@@ -47,7 +47,7 @@ use Rattle.smc_check.specs.declared.check.Used.{Used}
 use Rattle.smc_check.specs.declared.count.Running.{Running}
 use Rattle.smc_check.specs.Checking.{grown, fills_of, Found, bad, runs}
 use Rattle.smc_check.specs.Going.{Made, Advances, Concludes, stops, passes}
-use Rattle.smc_check.specs.Tallying.{StandsAt, summed, Balanced, nothing, sums}
+use Rattle.smc_check.specs.Tallying.{StandsAt, summed, Balanced, sums}
 use Rattle.smc_check.proofs.Tallies.{tally-end}
 use Rattle.smc_check.proofs.Filling.{Counted, counted_start, counted-fills, counted-grown, Few, few-start, few-grown}
 
