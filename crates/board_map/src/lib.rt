@@ -40,6 +40,7 @@ pub fn fresh_map(size: Size, map: &mut [u16]) -> Recorded
     }
 }
 
+// Of a map of any length. `smc_check` counts a board's in 16 bits, many at a time: as one function of any number type it would need its bound here too.
 fn unsettled_entries(map: &[u16]) -> usize
     ensures { result ≡ unsettled map.now }
 {

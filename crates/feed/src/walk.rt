@@ -1,4 +1,5 @@
-// The walk of a feed or of a run of chunks, chunk by chunk over a lent picture and map, with their record.
+// The walk of a feed or of a run of chunks, chunk by chunk over a lent picture and map, with their record. The three are lent one by one, as C lends them:
+// a struct of them could not say that they fit, since a ghost field beside a `&mut` is not covered.
 ghost use Rattle.std.specs.Prelude.{◌≡◌, length};
 ghost use Rattle.spec.specs.Answers.{ok, answer, number_of, refusal_number};
 ghost use Rattle.spec.specs.Sizes.{blocks};

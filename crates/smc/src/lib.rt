@@ -55,17 +55,16 @@ pub fn read_chunk(kept: Record, chunk: &[u8], picture: &mut [u8], map: &mut [u16
     }
     let grid = Grid::of(size);
     let blocks = grid.blocks();
-    let changed = smc_check::check_and_count(blocks, chunk, map);
-    let answer = changed.answer;
-    if answer.number != Answer::OK {
-        return Recorded { answer, kept };
-    }
+    let changed = match smc_check::check_and_count(blocks, chunk, map) {
+        Ok(changed) => changed,
+        Err(answer) => return Recorded { answer, kept },
+    };
     if miscounts(blocks, kept.unsettled, changed.now) {
         return refused(Refusal::BadCount, kept);
     }
     paint::paint(grid, chunk, picture, map);
     Recorded {
-        answer,
+        answer: Answer::accepted(changed.length, blocks),
         kept: Record {
             size,
             unsettled: kept.unsettled + changed.now - blocks,

@@ -20,124 +20,124 @@ struct Place {
     k: usize,
 }
 
-// Opcodes 0 to 7.
-fn plain_op(grid: Grid, s: &[u8], from: Place, pic: &mut [u8], map: &mut [u16]) -> Place
-    requires lent { Lent grid.columns grid.lines pic.old map.old }
-    requires room { Room (grid.columns * grid.lines) s.now from.at from.k }
-    requires at_bound { upper_at s.now from.at < 8 }
-    ensures { Ran grid.columns grid.lines s.now from.at from.k pic.old map.old pic.new map.new result.at result.k }
-{
-    let lead = smc_check::lead_at(s, from.at);
-    let n = lead.count;
-    let body = lead.body;
-    let k = from.k;
-    if 6 <= lead.upper {
-        let run = Plain {
+// The next opcode of an accepted chunk: it stands at s[at], and k blocks have had their turn. Picture and map are lent beside it, and that they have
+// the grid's size stands in each contract: a ghost field beside a `&mut` is not covered.
+#[derive(Clone, Copy)]
+struct Opcode<'a> {
+    grid: Grid,
+    s: &'a [u8],
+    at: usize,
+    k: usize,
+    ghost room: { Room (grid.columns * grid.lines) s.now at k },
+}
+
+impl Opcode<'_> {
+    // Opcodes 0 to 7.
+    fn plain(&self, pic: &mut [u8], map: &mut [u16]) -> Place
+        requires lent { Lent self.now.grid.columns self.now.grid.lines pic.old map.old }
+        requires at_bound { upper_at self.now.s.now self.now.at < 8 }
+        ensures { Ran self.now.grid.columns self.now.grid.lines self.now.s.now self.now.at self.now.k pic.old map.old pic.new map.new result.at result.k }
+    {
+        let lead = smc_check::lead_at(self.s, self.at);
+        let n = lead.count;
+        let body = lead.body;
+        let k = self.k;
+        if 6 <= lead.upper {
+            let run = Plain {
+                blocks: n,
+                rows: Rows::of_colour(self.s[body]),
+            };
+            runs::put_run(&run, pic, map, self.grid, k);
+            return Place {
+                at: body + 1,
+                k: k + n,
+            };
+        }
+        if 4 <= lead.upper {
+            runs::copy_run(pic, map, self.grid, k, 2 * n, 2);
+            return Place {
+                at: body,
+                k: k + 2 * n,
+            };
+        }
+        if 2 <= lead.upper {
+            runs::copy_run(pic, map, self.grid, k, n, 1);
+            return Place { at: body, k: k + n };
+        }
+        Place { at: body, k: k + n }
+    }
+
+    // Opcodes 8 and 9, A and B, C and D: one that stores an entry of a table, and one that names one.
+    fn tabled<P: Packing, const COLOURS: usize, const ALL: usize>(
+        &self,
+        packing: &P,
+        pic: &mut [u8],
+        map: &mut [u16],
+        table: &mut Table<COLOURS, ALL>,
+    ) -> Place
+        requires lent { Lent self.now.grid.columns self.now.grid.lines pic.old map.old }
+        requires bound { (P.STORING ≤ upper_at self.now.s.now self.now.at) × (upper_at self.now.s.now self.now.at < P.STORING + 2) }
+        requires table_of { COLOURS ≡ colours P.bits }
+        ensures { Tabled P.bits self.now.grid.columns self.now.grid.lines self.now.s.now self.now.at self.now.k pic.old map.old table.old.colours table.old.next pic.new map.new table.new.colours result.at result.k table.new.next }
+    {
+        let lead = smc_check::lead_at(self.s, self.at);
+        let stores = lead.upper == P::STORING;
+        let entry = table.entry_of(stores, self.s, lead.body);
+        let run = ByFlags {
+            packing,
+            blocks: lead.count,
+            entry: table.colours_at(entry.at, stores, self.s, lead.body),
+            s: self.s,
+            at: entry.rest,
+        };
+        runs::put_run(&run, pic, map, self.grid, self.k);
+        Place {
+            at: entry.rest + P::FLAGS * lead.count,
+            k: self.k + lead.count,
+        }
+    }
+
+    // Opcode E.
+    fn whole(&self, pic: &mut [u8], map: &mut [u16]) -> Place
+        requires lent { Lent self.now.grid.columns self.now.grid.lines pic.old map.old }
+        requires bound { 14 ≤ upper_at self.now.s.now self.now.at }
+        ensures { Ran self.now.grid.columns self.now.grid.lines self.now.s.now self.now.at self.now.k pic.old map.old pic.new map.new result.at result.k }
+    {
+        let lead = smc_check::lead_at(self.s, self.at);
+        let n = lead.count;
+        let run = Whole {
             blocks: n,
-            rows: Rows::of_colour(s[body]),
+            s: self.s,
+            at: lead.body,
         };
-        runs::put_run(&run, pic, map, grid, k);
-        return Place {
-            at: body + 1,
-            k: k + n,
-        };
+        runs::put_run(&run, pic, map, self.grid, self.k);
+        Place {
+            at: lead.body + 16 * n,
+            k: self.k + n,
+        }
     }
-    if 4 <= lead.upper {
-        runs::copy_run(pic, map, grid, k, 2 * n, 2);
-        return Place {
-            at: body,
-            k: k + 2 * n,
-        };
-    }
-    if 2 <= lead.upper {
-        runs::copy_run(pic, map, grid, k, n, 1);
-        return Place { at: body, k: k + n };
-    }
-    Place { at: body, k: k + n }
-}
 
-// Opcodes 8 and 9, A and B, C and D: one that stores an entry of a table, and one that names one.
-fn table_op<P: Packing, const COLOURS: usize, const ALL: usize>(
-    packing: &P,
-    grid: Grid,
-    s: &[u8],
-    from: Place,
-    pic: &mut [u8],
-    map: &mut [u16],
-    table: &mut Table<COLOURS, ALL>,
-) -> Place
-    requires lent { Lent grid.columns grid.lines pic.old map.old }
-    requires room { Room (grid.columns * grid.lines) s.now from.at from.k }
-    requires bound { (P.STORING ≤ upper_at s.now from.at) × (upper_at s.now from.at < P.STORING + 2) }
-    requires table_of { COLOURS ≡ colours P.bits }
-    ensures { Tabled P.bits grid.columns grid.lines s.now from.at from.k pic.old map.old table.old.colours table.old.next pic.new map.new table.new.colours result.at result.k table.new.next }
-{
-    let lead = smc_check::lead_at(s, from.at);
-    let stores = lead.upper == P::STORING;
-    let entry = table.entry_of(stores, s, lead.body);
-    let run = ByFlags {
-        packing,
-        blocks: lead.count,
-        entry: table.colours_at(entry.at, stores, s, lead.body),
-        s,
-        at: entry.rest,
-    };
-    runs::put_run(&run, pic, map, grid, from.k);
-    Place {
-        at: entry.rest + P::FLAGS * lead.count,
-        k: from.k + lead.count,
+    // Whichever it is. Those that come most often stand last: that is the order that is guessed best at run time. By an `if` each, since each kind of
+    // opcode works on a table of another type: closures would have to hold what is lent here.
+    fn paint(&self, pairs: &Pairs, pic: &mut [u8], map: &mut [u16], tables: &mut Tables) -> Place
+        requires lent { Lent self.now.grid.columns self.now.grid.lines pic.old map.old }
+        ensures { Turned self.now.grid.columns self.now.grid.lines self.now.s.now self.now.at self.now.k tables.old pic.old map.old result.at result.k tables.new pic.new map.new }
+    {
+        let upper = self.s[self.at] / 16;
+        if 14 <= upper {
+            return self.whole(pic, map);
+        }
+        if 12 <= upper {
+            return self.tabled(&Octets, pic, map, &mut tables.octets);
+        }
+        if 10 <= upper {
+            return self.tabled(&Quads, pic, map, &mut tables.quads);
+        }
+        if 8 <= upper {
+            return self.tabled(pairs, pic, map, &mut tables.pairs);
+        }
+        self.plain(pic, map)
     }
-}
-
-// Opcode E.
-fn whole_op(grid: Grid, s: &[u8], from: Place, pic: &mut [u8], map: &mut [u16]) -> Place
-    requires lent { Lent grid.columns grid.lines pic.old map.old }
-    requires room { Room (grid.columns * grid.lines) s.now from.at from.k }
-    requires bound { 14 ≤ upper_at s.now from.at }
-    ensures { Ran grid.columns grid.lines s.now from.at from.k pic.old map.old pic.new map.new result.at result.k }
-{
-    let lead = smc_check::lead_at(s, from.at);
-    let n = lead.count;
-    let run = Whole {
-        blocks: n,
-        s,
-        at: lead.body,
-    };
-    runs::put_run(&run, pic, map, grid, from.k);
-    Place {
-        at: lead.body + 16 * n,
-        k: from.k + n,
-    }
-}
-
-// The opcode at s[from.at], whichever it is. Those that come most often stand last: that is the order that is guessed best at run time.
-fn turn(
-    pairs: &Pairs,
-    grid: Grid,
-    s: &[u8],
-    from: Place,
-    pic: &mut [u8],
-    map: &mut [u16],
-    tables: &mut Tables,
-) -> Place
-    requires lent { Lent grid.columns grid.lines pic.old map.old }
-    requires room { Room (grid.columns * grid.lines) s.now from.at from.k }
-    ensures { Turned grid.columns grid.lines s.now from.at from.k tables.old pic.old map.old result.at result.k tables.new pic.new map.new }
-{
-    let upper = s[from.at] / 16;
-    if 14 <= upper {
-        return whole_op(grid, s, from, pic, map);
-    }
-    if 12 <= upper {
-        return table_op(&Octets, grid, s, from, pic, map, &mut tables.octets);
-    }
-    if 10 <= upper {
-        return table_op(&Quads, grid, s, from, pic, map, &mut tables.quads);
-    }
-    if 8 <= upper {
-        return table_op(pairs, grid, s, from, pic, map, &mut tables.pairs);
-    }
-    plain_op(grid, s, from, pic, map)
 }
 
 // Paints an accepted chunk.
@@ -156,6 +156,12 @@ pub fn paint(grid: Grid, s: &[u8], pic: &mut [u8], map: &mut [u16])
     let blocks = map.len();
     let mut from = Place { at: 4, k: 0 };
     while from.k < blocks {
-        from = turn(&pairs, grid, s, from, pic, map, &mut tables);
+        let opcode = Opcode {
+            grid,
+            s,
+            at: from.at,
+            k: from.k,
+        };
+        from = opcode.paint(&pairs, pic, map, &mut tables);
     }
 }

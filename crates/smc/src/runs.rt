@@ -1,4 +1,5 @@
-// Runs of blocks in picture and map, each painted in place, one after the other.
+// Runs of blocks in picture and map, each painted in place, one after the other. That both have the grid's size stands in each contract: they are lent by
+// `&mut`, beside which a struct can have no ghost field.
 ghost use Rattle.std.specs.Prelude.{◌≡◌, ℕ, ◌+◌, ◌*◌, ◌<◌, ◌≤◌, List, length, replicate, slice_index, slice_set};
 ghost use Rattle.spec.specs.Basics.{part};
 ghost use Rattle.spec.specs.Flags.{flags, chosen};

@@ -47,7 +47,7 @@ use Rattle.smc_check.specs.declared.check.Used.{Used}
 use Rattle.smc_check.specs.declared.count.Running.{Running}
 use Rattle.smc_check.specs.Checking.{grown, fills_of, Found, bad, runs}
 use Rattle.smc_check.specs.Going.{Made, Advances, Concludes, stops, passes}
-use Rattle.smc_check.specs.Tallying.{StandsAt, summed, Balanced, nothing, sums}
+use Rattle.smc_check.specs.Tallying.{StandsAt, summed, Balanced, sums}
 use Rattle.smc_check.proofs.Tallies.{tally-end}
 use Rattle.smc_check.proofs.Filling.{Counted, counted_start, counted-fills, counted-grown, Few, few-start, few-grown}
 
@@ -207,9 +207,6 @@ module _ {A : Type 0} (T : A → List Origin → Type 0) (n : ℕ) (s : List ℕ
     stopped a e = is-stopped a (subst (λ (r : Result (Used A) Answer). Concludes T n s r o) e c)
 
 -- what is counted in the end
-pub balanced-refused : (m : List ℕ) (o : Chunks.Outcome) (a : Answer) → o ≡ refused a → (now : ℕ) → Balanced m now o
-balanced-refused m o a e now = rw e nothing
-
 pub balanced-accepted : (m : List ℕ) (o : Chunks.Outcome) (t : Running) (made : List Origin) → o ≡ accepted made → length made ≡ length m
     → (lent : List ℕ) → lent ≡ m → StandsAt lent made t 0 → (now : ℕ) → now ≡ summed lent t → Balanced m now o
 balanced-accepted m o t made e l lent q g now en = rw (e, en, q) (sums (tally-end m made _ _ _ _ _ (rw q at g) l))

@@ -1,12 +1,14 @@
 -- What the counting beside the check pass goes by: what a loop that only reads heads of opcodes and the lent map can know of the count's
 -- change. No part of what a chunk means. Assumes nothing.
-use Rattle.std.specs.Prelude.{ℕ, zero, suc, ◌+◌, ◌-◌, ◌*◌, ◌<◌, ◌≤◌, ◌≡◌, List, Bool, true, false, eqb, length, get_or}
+use Rattle.std.specs.Prelude.{ℕ, zero, suc, ◌+◌, ◌-◌, ◌*◌, ◌<◌, ◌≤◌, ◌≡◌, List, Bool, true, false, eqb, length, get_or, Result, Ok, Err}
 use Rattle.spec.specs.declared.Answer.{Answer}
+use Rattle.spec.specs.Answers.{ok, answer_at}
 use Rattle.spec.specs.Basics.{if}
 use Rattle.spec.specs.Pictures.{Origin, held}
 use Rattle.spec.specs.Maps.{settled, entry, remap, unsettled, newly_unsettled, newly_settled}
 use Rattle.spec.specs.Chunks.{Outcome, refused, accepted}
 use Rattle.smc_check.specs.declared.count.Running.{Running}
+use Rattle.smc_check.specs.declared.count.Changed.{Changed}
 use Rattle.smc_check.specs.declared.count.Block.{Block}
 use Rattle.smc_check.specs.declared.count.Block.TheVariants.{Settled, Skipped, Unsettled}
 use Rattle.smc_check.specs.Tables.{touches}
@@ -119,3 +121,8 @@ summed m t = t.now - open_in m t.lo (t.hi - t.lo)
 pub data Balanced (m : List ℕ) (now : ℕ) : Outcome → Type 0 where
   nothing : {a : Answer} → Balanced m now (refused a)
   sums : {os : List Origin} → now + newly_settled m (remap os m) ≡ length m + newly_unsettled m (remap os m) → Balanced m now (accepted os)
+
+-- the answer to a chunk for n blocks, by what the code has of it
+abbrev pub answer_of : ℕ → Result Changed Answer → Answer
+answer_of n (Ok c) = answer_at ok c.length n
+answer_of n (Err a) = a

@@ -1,11 +1,12 @@
 // The count's change, beside the check: how many entries of blocks that are painted or copied are unsettled, and how many blocks a copy leaves
 // unsettled. It looks at the map while the check waits for its next opcode, and writes nothing.
-ghost use Rattle.std.specs.Prelude.{◌≡◌, ◌+◌, ◌≤◌, ◌<◌, length};
+ghost use Rattle.std.specs.Prelude.{◌≡◌, ◌≢◌, ◌+◌, ◌≤◌, ◌<◌, length, IfOk, IfErr};
+ghost use Rattle.spec.specs.Answers.{ok};
 ghost use Rattle.spec.specs.Sizes.{max_blocks};
 ghost use Rattle.spec.specs.Maps.{unsettled};
 ghost use Rattle.spec.specs.Chunks.{decode, verdict};
 ghost use Rattle.smc_check.specs.Tallying.{bit, opened, left, copied, second_of, is_settled, settled_back, begun, summed};
-ghost use Rattle.smc_check.specs.Tallying.{StandsAt, Tallied, Owing, Notes, Takes, Balanced};
+ghost use Rattle.smc_check.specs.Tallying.{StandsAt, Tallied, Owing, Notes, Takes, Balanced, answer_of};
 
 use crate::check;
 use crate::check::Along;
@@ -39,10 +40,10 @@ pub struct Counter<'a> {
     ghost map_fits: { length map.now ≤ max_blocks },
 }
 
-// The answer to a chunk, and the number of blocks with the count's change added, where it is accepted.
+// Of an accepted chunk: the length used, and the number of blocks with the count's change added.
 #[derive(Clone, Copy)]
 pub struct Changed {
-    pub answer: Answer,
+    pub length: usize,
     pub now: usize,
 }
 
@@ -236,17 +237,16 @@ impl<'a> Along for Counter<'a> {
     }
 }
 
-// The answer to a chunk for a board of so many blocks, and what it makes of the count.
-pub fn check(blocks: usize, s: &[u8], map: &[u16]) -> Changed
+// A chunk for a board of so many blocks: its answer where it is refused, and else what it makes of the count.
+pub fn check(blocks: usize, s: &[u8], map: &[u16]) -> Result<Changed, Answer>
     requires { (length map.now ≡ blocks) × (blocks ≤ max_blocks) }
-    ensures answer_value { result.answer ≡ verdict s.now (decode blocks s.now) }
-    ensures balanced { Balanced map.now result.now (decode blocks s.now) }
+    ensures answer_value { answer_of blocks result ≡ verdict s.now (decode blocks s.now) }
+    ensures refused { IfErr result (λ a. a.number ≢ ok) }
+    ensures balanced { IfOk result (λ c. Balanced map.now c.now (decode blocks s.now)) }
 {
-    match check::check_along(blocks, s, Counter::new(map)) {
-        Ok(used) => Changed {
-            answer: Answer::accepted(used.length, blocks),
-            now: used.along.summed(),
-        },
-        Err(answer) => Changed { answer, now: 0 },
-    }
+    let used = check::check_along(blocks, s, Counter::new(map))?;
+    Ok(Changed {
+        length: used.length,
+        now: used.along.summed(),
+    })
 }

@@ -1,4 +1,5 @@
-// The types that every function of the project answers with and is lent. What they mean is defined in specs/.
+// The types that every function of the project answers with and is lent. What they mean is defined in specs/. Those marked `repr(C)` are what C sees: so
+// there a number stands for a `Refusal`, and an answer or a flag beside a value for a `Result` or an `Option`.
 #![tactic(auto)]
 
 ghost use Rattle.std.specs.Prelude.{◌≡◌, eqb};

@@ -6,15 +6,15 @@ pub loop-from-init : goal.loop-from-init
 loop-from-init c =
     begins _ _ _ _ _ c.requires.accepts c.requires.lent _ (c.emptied.ensures 1 refl) (c.emptied-2.ensures 2 refl) (c.emptied-3.ensures 3 refl)
 
-pub turn-from-requires-clause-room : goal.turn-from-requires-clause-room
-turn-from-requires-clause-room c = let e = c.requires.lent.entries in
+pub invariant_of-opcode : goal.invariant_of-opcode
+invariant_of-opcode c = let e = c.requires.lent.entries in
     let l : c.loop-from.from.k < c.args.grid.columns * c.args.grid.lines = omega arith in
-    (opens _ _ _ _ _ c.requires.accepts _ _ _ _ _ c.loop-from.invariant l).room
+    record { room = (opens _ _ _ _ _ c.requires.accepts _ _ _ _ _ c.loop-from.invariant l).room }
 
 pub loop-from-smaller : goal.loop-from-smaller
 loop-from-smaller c = let e = c.requires.lent.entries in
     let l : c.loop-from.from.k < c.args.grid.columns * c.args.grid.lines = omega arith in
-    let t = less _ _ _ _ _ c.requires.accepts _ _ _ _ _ c.loop-from.invariant l _ _ _ _ _ c.turn-from.ensures in
+    let t = less _ _ _ _ _ c.requires.accepts _ _ _ _ _ c.loop-from.invariant l _ _ _ _ _ c.paint-from.ensures in
     let p = t.0 in
     let q = t.1 in
     omega arith
@@ -22,7 +22,7 @@ loop-from-smaller c = let e = c.requires.lent.entries in
 pub loop-from-preserved : goal.loop-from-preserved
 loop-from-preserved c = let e = c.requires.lent.entries in
     let l : c.loop-from.from.k < c.args.grid.columns * c.args.grid.lines = omega arith in
-    continues _ _ _ _ _ c.requires.accepts _ _ _ _ _ c.loop-from.invariant l _ _ _ _ _ c.turn-from.ensures (omega arith) (omega arith)
+    continues _ _ _ _ _ c.requires.accepts _ _ _ _ _ c.loop-from.invariant l _ _ _ _ _ c.paint-from.ensures (omega arith) (omega arith)
 
 pub returns-clause-pic_after : goal.returns-clause-pic_after
 returns-clause-pic_after c = let e = c.requires.lent.entries in
