@@ -85,7 +85,8 @@ fn read_chunks(
 ) -> Tally
     requires { length map.old ≡ blocks lent.size }
     ensures value { result ≡ tally lent.size (read_all lent.size (chunks_from (length feed.now) feed.now first) (board picture.old map.old lent.unsettled)) }
-    ensures picture_after { picture.new ≡ (read_all lent.size (chunks_from (length feed.now) feed.now first) (board picture.old map.old lent.unsettled)).board.picture }
+    ensures picture_after { picture.new ≡ (read_all lent.size (chunks_from (length feed.now) feed.now first)
+        (board picture.old map.old lent.unsettled)).board.picture }
     ensures map_after { map.new ≡ (read_all lent.size (chunks_from (length feed.now) feed.now first) (board picture.old map.old lent.unsettled)).board.map }
 {
     let mut at = first;
@@ -120,9 +121,12 @@ fn walk_chunks(
     map: &mut [u16],
 ) -> Tally
     requires { number_of checked ≡ ok → length map.old ≡ blocks kept.size }
-    ensures value { result ≡ tally kept.size (walk_behind (number_of checked) kept.size (chunks_from (length feed.now) feed.now first) (board picture.old map.old kept.unsettled)) }
-    ensures picture_after { picture.new ≡ (walk_behind (number_of checked) kept.size (chunks_from (length feed.now) feed.now first) (board picture.old map.old kept.unsettled)).board.picture }
-    ensures map_after { map.new ≡ (walk_behind (number_of checked) kept.size (chunks_from (length feed.now) feed.now first) (board picture.old map.old kept.unsettled)).board.map }
+    ensures value { result ≡ tally kept.size (walk_behind (number_of checked) kept.size (chunks_from (length feed.now) feed.now first)
+        (board picture.old map.old kept.unsettled)) }
+    ensures picture_after { picture.new ≡ (walk_behind (number_of checked) kept.size (chunks_from (length feed.now) feed.now first)
+        (board picture.old map.old kept.unsettled)).board.picture }
+    ensures map_after { map.new ≡ (walk_behind (number_of checked) kept.size (chunks_from (length feed.now) feed.now first)
+        (board picture.old map.old kept.unsettled)).board.map }
 {
     if let Err(why) = checked {
         return Tally {

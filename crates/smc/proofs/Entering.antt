@@ -1,5 +1,31 @@
 -- An opcode with a table, by the entry that it stores or names: one law for both. Assumes nothing.
-use Rattle.std.proofs.Common.{◌≡◌, ℕ, zero, suc, ◌+◌, ◌*◌, ◌<◌, ◌≤◌, Bool, true, false, eqb, List, length, get_or, sym, refl, ap, ◌∙◌, one-mul, arith, pow_pos, eqb-true, eq-eqb, ne_eqb}
+use Rattle.std.proofs.Common.{
+  ◌≡◌,
+  ℕ,
+  zero,
+  suc,
+  ◌+◌,
+  ◌*◌,
+  ◌<◌,
+  ◌≤◌,
+  Bool,
+  true,
+  false,
+  eqb,
+  List,
+  length,
+  get_or,
+  sym,
+  refl,
+  ap,
+  ◌∙◌,
+  one-mul,
+  arith,
+  pow_pos,
+  eqb-true,
+  eq-eqb,
+  ne_eqb,
+}
 use native.Mathlib.Decide.{ℕ_discrete}
 use lib.Seq.{length-sets}
 use Rattle.spec.specs.Basics.{part}

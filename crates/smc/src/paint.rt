@@ -78,7 +78,8 @@ impl Opcode<'_> {
         requires lent { Lent self.now.grid.columns self.now.grid.lines pic.old map.old }
         requires bound { (P.STORING ≤ upper_at self.now.s.now self.now.at) × (upper_at self.now.s.now self.now.at < P.STORING + 2) }
         requires table_of { COLOURS ≡ colours P.bits }
-        ensures { Tabled P.bits self.now.grid.columns self.now.grid.lines self.now.s.now self.now.at self.now.k pic.old map.old table.old.colours table.old.next pic.new map.new table.new.colours result.at result.k table.new.next }
+        ensures { Tabled P.bits self.now.grid.columns self.now.grid.lines self.now.s.now self.now.at self.now.k pic.old map.old
+            table.old.colours table.old.next pic.new map.new table.new.colours result.at result.k table.new.next }
     {
         let lead = smc_check::lead_at(self.s, self.at);
         let stores = lead.upper == P::STORING;
@@ -121,7 +122,8 @@ impl Opcode<'_> {
     // opcode works on a table of another type: closures would have to hold what is lent here.
     fn paint(&self, pairs: &Pairs, pic: &mut [u8], map: &mut [u16], tables: &mut Tables) -> Place
         requires lent { Lent self.now.grid.columns self.now.grid.lines pic.old map.old }
-        ensures { Turned self.now.grid.columns self.now.grid.lines self.now.s.now self.now.at self.now.k tables.old pic.old map.old result.at result.k tables.new pic.new map.new }
+        ensures { Turned self.now.grid.columns self.now.grid.lines self.now.s.now self.now.at self.now.k tables.old pic.old map.old
+            result.at result.k tables.new pic.new map.new }
     {
         let upper = self.s[self.at] / 16;
         if 14 <= upper {

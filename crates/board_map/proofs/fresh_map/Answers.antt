@@ -10,7 +10,8 @@ use Rattle.board_map.proofs.fresh_map.Goals as goal
 module _ (c : goal.After-from) where
   left : fresh_map c.args.size c.args.map.now ≡ map_left (answer (refusal_number c.in-Err.why) 0) c.args.map.now (record_of c.args.size 0)
   left = let e = c.in-Err.ensures in
-      fresh-refused c.args.size c.args.map.now (λ o. refused-not-ok _ (e ∙ o)) ∙ ap (λ (n : ℕ). map_left (answer n 0) c.args.map.now (record_of c.args.size 0)) (sym e)
+      fresh-refused c.args.size c.args.map.now (λ o. refused-not-ok _ (e ∙ o))
+      ∙ ap (λ (n : ℕ). map_left (answer n 0) c.args.map.now (record_of c.args.size 0)) (sym e)
 
 pub returns-in-Err-clause-answer_value : goal.returns-in-Err-clause-answer_value
 returns-in-Err-clause-answer_value c = rw (left c, c.from.ensures)

@@ -6,43 +6,47 @@ use Rattle.smc.proofs.Opcodes.{facts-two, kind-two}
 use Rattle.smc.proofs.paint.Opcode.plain.Goals as goal
 
 pub returns-then-lead-ge6 : goal.returns-then-lead-ge6
-returns-then-lead-ge6 c = let a = c.args in
+returns-then-lead-ge6 c =
+    let o = c.args.self.now in
     let el = c.lead_at-lead.ensures in
-    ran-fill a.self.now.grid.columns a.self.now.grid.lines c.requires.lent.canvas.wide a.self.now.s.now a.self.now.at a.self.now.k _ _ c.args.self.now.room.within _ el.count _ el.body
-    (kind-two c.args.self.now.room c.lead_at-lead.ensures 6 fill c.if-lead-ge6.true
+    ran-fill o.grid.columns o.grid.lines c.requires.lent.canvas.wide o.s.now o.at o.k _ _ o.room.within _ el.count _ el.body
+    (kind-two o.room c.lead_at-lead.ensures 6 fill c.if-lead-ge6.true
     (omega (arith, c.lead_at-lead.ensures.upper, c.requires.at_bound)) refl refl) _ _
     (c.put_run.ensures.pic_after
-    ∙ ap (λ (px : List ℕ). puts a.self.now.grid.columns a.self.now.k (λ i. px) c.lead_at-lead.result.count a.pic.now) c.of_colour.ensures)
+    ∙ ap (λ (px : List ℕ). puts o.grid.columns o.k (λ i. px) c.lead_at-lead.result.count c.args.pic.now) c.of_colour.ensures)
     c.put_run.ensures.map_after
 
 pub returns-then-lead-ge4 : goal.returns-then-lead-ge4
-returns-then-lead-ge4 c = let a = c.args in
+returns-then-lead-ge4 c =
+    let o = c.args.self.now in
     let el = c.lead_at-lead.ensures in
-    ran-copy a.self.now.grid.columns a.self.now.grid.lines c.requires.lent.canvas.wide a.self.now.s.now a.self.now.at a.self.now.k _ _ c.args.self.now.room.within _ el.count _ el.body 2 (omega arith)
-    (kind-two c.args.self.now.room c.lead_at-lead.ensures 4 (copy 2) c.if-lead-ge4.true
+    ran-copy o.grid.columns o.grid.lines c.requires.lent.canvas.wide o.s.now o.at o.k _ _ o.room.within _ el.count _ el.body 2 (omega arith)
+    (kind-two o.room c.lead_at-lead.ensures 4 (copy 2) c.if-lead-ge4.true
     (omega (arith, c.if-lead-ge6.false)) refl refl)
     (omega (
       arith,
-      (facts-two c.args.self.now.room c.lead_at-lead.ensures 4 (copy 2) c.if-lead-ge4.true
+      (facts-two o.room c.lead_at-lead.ensures 4 (copy 2) c.if-lead-ge4.true
           (omega (arith, c.if-lead-ge6.false)) refl refl).before,
     )) _ refl _ _ c.copy_run.ensures.pic_after
     c.copy_run.ensures.map_after
 
 pub returns-then-lead-ge2 : goal.returns-then-lead-ge2
-returns-then-lead-ge2 c = let a = c.args in
+returns-then-lead-ge2 c =
+    let o = c.args.self.now in
     let el = c.lead_at-lead.ensures in
-    ran-copy a.self.now.grid.columns a.self.now.grid.lines c.requires.lent.canvas.wide a.self.now.s.now a.self.now.at a.self.now.k _ _ c.args.self.now.room.within _ el.count _ el.body 1 (omega arith)
-    (kind-two c.args.self.now.room c.lead_at-lead.ensures 2 (copy 1) c.if-lead-ge2.true
+    ran-copy o.grid.columns o.grid.lines c.requires.lent.canvas.wide o.s.now o.at o.k _ _ o.room.within _ el.count _ el.body 1 (omega arith)
+    (kind-two o.room c.lead_at-lead.ensures 2 (copy 1) c.if-lead-ge2.true
     (omega (arith, c.if-lead-ge4.false)) refl refl)
     (omega (
       arith,
-      (facts-two c.args.self.now.room c.lead_at-lead.ensures 2 (copy 1) c.if-lead-ge2.true
+      (facts-two o.room c.lead_at-lead.ensures 2 (copy 1) c.if-lead-ge2.true
           (omega (arith, c.if-lead-ge4.false)) refl refl).before,
     )) _ (sym (one-mul _)) _ _ c.copy_run-then-lead-ge2.ensures.pic_after
     c.copy_run-then-lead-ge2.ensures.map_after
 
 pub returns : goal.returns
-returns c = let a = c.args in
+returns c =
+    let o = c.args.self.now in
     let el = c.lead_at-lead.ensures in
-    ran-skip a.self.now.grid.columns a.self.now.grid.lines c.requires.lent.canvas.wide a.self.now.s.now a.self.now.at a.self.now.k _ _ c.args.self.now.room.within _ el.count _ el.body
-    (kind-two c.args.self.now.room c.lead_at-lead.ensures 0 skip (omega arith) (omega (arith, c.if-lead-ge2.false)) refl refl)
+    ran-skip o.grid.columns o.grid.lines c.requires.lent.canvas.wide o.s.now o.at o.k _ _ o.room.within _ el.count _ el.body
+    (kind-two o.room c.lead_at-lead.ensures 0 skip (omega arith) (omega (arith, c.if-lead-ge2.false)) refl refl)

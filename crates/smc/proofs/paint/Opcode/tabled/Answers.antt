@@ -58,11 +58,14 @@ returns g c =
     let en = entered-as _ c.requires.table_of (ap (eqb c.lead_at-lead.result.upper) c.STORING.ensures) c.entry_of-entry.ensures in
     let all : length c.args.table.now.colours ≡ size g.P.Packing.bits = omega (arith, c.requires.table_of, c.args.table.now.all) in
     let per = c.FLAGS.ensures ∙ g.met.P.Packing.flags_are in
+    let o = c.args.self.now in
+    let l = c.entry_of-entry.new.self.colours in
+    let e = c.entry_of-entry.result in
+    let blocks = c.lead_at-lead.result.count in
     let shown : ℕ → List ℕ → Type 0
-    = λ f cs. c.put_run.new.pic ≡ puts c.args.self.now.grid.columns c.args.self.now.k
-    (λ i. chosen (flags g.P.Packing.bits (part c.args.self.now.s.now (c.entry_of-entry.result.rest + f * i) f)) cs) c.lead_at-lead.result.count c.args.pic.now in
-    let cs = c.colours_at.ensures ∙ ap (λ (w : ℕ). part c.entry_of-entry.new.self.colours c.entry_of-entry.result.at w) c.requires.table_of in
+    = λ f cs. c.put_run.new.pic ≡ puts o.grid.columns o.k (λ i. chosen (flags g.P.Packing.bits (part o.s.now (e.rest + f * i) f)) cs) blocks c.args.pic.now in
+    let cs = c.colours_at.ensures ∙ ap (λ (w : ℕ). part l e.at w) c.requires.table_of in
+    let by-flags = subst (λ (l : List ℕ). shown g.P.Packing.FLAGS l) cs c.put_run.ensures.pic_after in
+    let by-bits = subst (λ (f : ℕ). shown f (part l e.at (colours g.P.Packing.bits))) g.met.P.Packing.flags_are by-flags in
     rw per
-    (entry-tabled st _ _ c.args.self.now.room el c.requires.bound en c.requires.lent.canvas.wide all (omega arith) _ _ _ _
-    (subst (λ (f : ℕ). shown f (part c.entry_of-entry.new.self.colours c.entry_of-entry.result.at (colours g.P.Packing.bits))) g.met.P.Packing.flags_are (subst (λ (l : List ℕ). shown g.P.Packing.FLAGS l) cs c.put_run.ensures.pic_after))
-    c.put_run.ensures.map_after)
+    (entry-tabled st _ _ o.room el c.requires.bound en c.requires.lent.canvas.wide all (omega arith) _ _ _ _ by-bits c.put_run.ensures.map_after)

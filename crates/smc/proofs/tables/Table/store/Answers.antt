@@ -21,4 +21,5 @@ returns-clause-colours_after n c =
     let w = n.row.COLOURS in
     let room = entry-room w a.self.now.next capacity (omega arith) in
     let part-len = length_part a.s.now a.q w c.requires in
-    put_mid-sets a.self.now.colours (w * a.self.now.next) _ _ (part a.s.now a.q w) (search rules) (omega (arith, part-len)) (omega (arith, part-len, room, a.self.now.all))
+    put_mid-sets a.self.now.colours (w * a.self.now.next) _ _ (part a.s.now a.q w) (search rules) (omega (arith, part-len))
+    (omega (arith, part-len, room, a.self.now.all))
