@@ -58,7 +58,7 @@ pub record FramePainted (z : Size) (s : List ℕ) (height width first left top :
   pub is : pic ≡ overlay z (sheet left top made) pic₀
 
 module _ {z : Size} {s : List ℕ} {height width first left top : ℕ} {pic₀ : List ℕ} (accepted : (rows s height width first).number ≡ ok)
-  (exact : length pic₀ ≡ pixels z) where
+    (exact : length pic₀ ≡ pixels z) where
   pub frame-unpainted : first ≤ length s → FramePainted z s height width first left top pic₀ 0 first pic₀ []
   frame-unpainted start = record { read = frame-begins start; is = sheet-none z left top pic₀ exact }
 

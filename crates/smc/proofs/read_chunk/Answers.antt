@@ -5,7 +5,7 @@ use Rattle.spec.specs.Chunks.{decode}
 use Rattle.spec.specs.Maps.{remap}
 use Rattle.spec.specs.Pictures.{paint}
 use Rattle.spec.specs.Sizes.{blocks, max_blocks, columns, lines}
-use Rattle.spec.specs.Boards.{Board, board, left, read}
+use Rattle.spec.specs.Boards.{board, left, read}
 use Rattle.spec.proofs.Limits.{allowed-size}
 use Rattle.spec.proofs.Refusals.{refused-not-ok}
 use Rattle.smc.specs.Painting.{origins_of}
