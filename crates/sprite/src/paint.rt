@@ -15,6 +15,16 @@ use spec::Size;
 // The picture's first column and row. specs/Strips.antt has it as `origin`.
 const ORIGIN: usize = 32768;
 
+// Pixel by pixel: `copy_from_slice` of lent buffers is a call of `memmove`, and the header for C promises `memcpy` and `memset` alone.
+fn copy(to: &mut [u8], colours: &[u8])
+    requires { length to.old ≡ length colours.now }
+    ensures { to.new ≡ colours.now }
+{
+    for i in 0..colours.len() {
+        to[i] = colours[i];
+    }
+}
+
 // Of pixels that follow one another, those that lie on the picture: how many come before them, the picture's column of the first, and how
 // many they are.
 #[derive(Clone, Copy)]
@@ -80,7 +90,7 @@ impl Position {
             Segment::Run(_, colour) => picture[start..end].fill(colour),
             Segment::Copy(colours) => {
                 let shown = &colours[visible.hidden..visible.hidden + visible.seen];
-                picture[start..end].copy_from_slice(shown);
+                copy(&mut picture[start..end], shown);
             }
         }
     }

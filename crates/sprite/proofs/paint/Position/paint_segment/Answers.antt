@@ -28,4 +28,4 @@ returns-in-Copy c =
     let q = c.requires in
     let n = c.count.ensures ∙ ap (λ s. length (shown s)) c.in-Copy.is in
     rw (← c.from.ensures, c.in-Copy.is) (copy-painted c.args.picture.now q.y_lt_height q.exact c.clip-visible.ensures c.if-visible-eq0.false
-    _ (omega arith) c.in-Copy.colours.now n c.copy_from_slice.ensures.after)
+    _ (omega arith) c.in-Copy.colours.now n c.copy.ensures)

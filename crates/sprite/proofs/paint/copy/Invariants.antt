@@ -1,0 +1,6 @@
+use mathlib.Core.Path.{◌≡◌}
+use lib.ListN.{take}
+use Rattle.sprite.proofs.paint.copy.Given as goal
+
+abbrev pub invariant-loop-i : goal.invariant-loop-i
+invariant-loop-i l = take l.i l.to ≡ take l.i l.colours
