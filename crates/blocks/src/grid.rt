@@ -1,4 +1,4 @@
-// A picture's measure in blocks.
+// A picture's measure in blocks, in a file of its own: a struct imports each `ghost use` of its file, and specs/Blocks names this one.
 ghost use Rattle.std.specs.Prelude.{◌≤◌, ◌<◌};
 ghost use Rattle.spec.specs.Sizes.{max_columns, max_lines};
 

@@ -8,7 +8,7 @@
 mod grid;
 
 ghost use Rattle.std.specs.Prelude.{◌≡◌, [], ◌∷◌, ◌+◌, ◌*◌, ◌≤◌, ◌<◌, true, length, replicate};
-ghost use Rattle.spec.specs.Sizes.{columns, lines, max_blocks, max_width, allowed};
+ghost use Rattle.spec.specs.Sizes.{columns, lines, max_columns, max_blocks, max_width, allowed};
 ghost use Rattle.spec.specs.Pictures.{place, block_at};
 ghost use Rattle.blocks.specs.Blocks.{row_of, pixels, row, rows, area};
 
@@ -67,6 +67,19 @@ pub fn rows_at(s: &[u8], p: usize, w: usize) -> Rows
     Rows { a, b, c, d }
 }
 
+// The place of block k's first pixel, where c blocks stand to a line.
+pub fn place_of(c: usize, k: usize) -> usize
+    requires c_nonzero { 0 < c }
+    requires c_le_max_columns { c ≤ max_columns }
+    requires k_lt_max_blocks { k < max_blocks }
+    ensures { result ≡ place c k 0 }
+{
+    // half-width division is the faster one
+    let line = k as u32 / c as u32;
+    let column = k as u32 % c as u32;
+    4 * line as usize * (4 * c) + 4 * column as usize
+}
+
 impl Grid {
     // That of a picture of an allowed size.
     pub fn of(size: Size) -> Self
@@ -92,10 +105,7 @@ impl Grid {
         requires { k < max_blocks }
         ensures { result ≡ place self.columns k 0 }
     {
-        // half-width division is the faster one
-        let line = k as u32 / self.columns as u32;
-        let column = k as u32 % self.columns as u32;
-        4 * line as usize * (4 * self.columns) + 4 * column as usize
+        place_of(self.columns, k)
     }
 
     // Block k of a picture.

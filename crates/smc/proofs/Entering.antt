@@ -5,6 +5,7 @@ use Rattle.std.proofs.Common.{
   zero,
   suc,
   ◌+◌,
+  ◌-◌,
   ◌*◌,
   ◌<◌,
   ◌≤◌,
@@ -14,6 +15,8 @@ use Rattle.std.proofs.Common.{
   eqb,
   List,
   length,
+  take,
+  drop,
   get_or,
   sym,
   refl,
@@ -41,6 +44,10 @@ use Rattle.smc.specs.Tables.{colours, size, Entered}
 use Rattle.smc.specs.Painting.{Room, Tabled}
 use Rattle.smc.proofs.Making.{tabled-store, tabled-named}
 use Rattle.smc.proofs.Opcodes.{kind-of, kind-other, facts-of, facts-other}
+
+-- a part, as the code lends it
+pub lent-part : (l : List ℕ) (q w : ℕ) → take (q + w - q) (drop q l) ≡ part l q w
+lent-part l q w = let e : q + w - q ≡ w = omega arith in rw e
 
 -- the table stays as long as it was
 pub entered-length : {w : ℕ} {l : List ℕ} {next : ℕ} {s : List ℕ} {q : ℕ} {t : Bool} {l' : List ℕ} {e rest next' : ℕ}

@@ -57,6 +57,3 @@ module _ (c r k n : ℕ) (f : ℕ → List ℕ → List ℕ) (e : ℕ → List �
     pub running-all : i ≡ n → (pic ≡ put_each c k f n pic₀) × (m ≡ mark_each k e n map₀)
     running-all ei = (rw ei at g.picture, rw ei at g.map)
 
-pub fill-pixels : (x : ℕ) (r : Rows) (w : ℕ) → row_of w ≡ x ∷ x ∷ x ∷ x ∷ [] → r ≡ record { a = w; b = w; c = w; d = w } → pixels r ≡ replicate 16 x
-unfolding pixels
-fill-pixels x r w e er = rw (er, e)

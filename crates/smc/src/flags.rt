@@ -4,7 +4,7 @@ ghost use Rattle.std.proofs.lemmas.List.Edits.{sets};
 ghost use Rattle.spec.specs.Flags.{digits, flags, chosen};
 ghost use Rattle.spec.specs.Octets.{row_by_bytes};
 ghost use Rattle.spec.specs.Pictures.{put_block};
-ghost use Rattle.blocks.specs.Blocks.{row_of, pixels, area};
+ghost use Rattle.blocks.specs.Blocks.{row_of, area};
 ghost use Rattle.smc.specs.Tables.{colours};
 ghost use Rattle.smc.specs.Factors.{Factors};
 ghost use Rattle.smc.specs.Storing.{Stores, pairs, quads, octets};
@@ -66,10 +66,10 @@ impl Pairs {
         requires { f < 16 }
         ensures { row_of result ≡ chosen (digits 1 4 f) (c0 ∷ c1 ∷ []) }
     {
-        let m = self.factors[f as usize];
-        let a = c0 as u32 * m;
-        let b = c1 as u32 * m;
-        (c0 as u32 * ALL).wrapping_add(b.wrapping_sub(a))
+        let m = self.factors[usize::from(f)];
+        let a = u32::from(c0) * m;
+        let b = u32::from(c1) * m;
+        (u32::from(c0) * ALL).wrapping_add(b.wrapping_sub(a))
     }
 }
 
@@ -108,7 +108,7 @@ fn quad_row(t: &[u8], f: u8) -> u32
     requires { length t.now ≡ colours 2 }
     ensures { row_of result ≡ chosen (digits 2 4 f) t.now }
 {
-    let x = f as usize;
+    let x = usize::from(f);
     blocks::word(t[x / 64], t[x / 16 % 4], t[x / 4 % 4], t[x % 4])
 }
 
@@ -138,7 +138,7 @@ impl Packing for Quads {
 }
 
 // ---- octets: three bits a pixel. Nothing here is wider than a byte but places, for controllers that are slow at shifting wider numbers: tests/run
-// looks at that. `spec/specs/Octets` says what is computed here, and what it names.
+// looks at that, and knows no way to widen a byte but `as`. `spec/specs/Octets` says what is computed here, and what it names.
 
 pub struct Octets;
 

@@ -1,6 +1,6 @@
 // The paint pass: it runs on an accepted chunk only, in place, block by block in order, and cannot fail. Here s is the chunk. Each opcode's
 // function reads its lead again: that is cheaper than to keep what the check pass read.
-ghost use Rattle.std.specs.Prelude.{◌≡◌, ◌+◌, ◌*◌, ◌<◌, ◌≤◌, length};
+ghost use Rattle.std.specs.Prelude.{◌≡◌, ◌+◌, ◌*◌, ◌<◌, ◌≤◌};
 ghost use Rattle.spec.specs.Chunks.{upper_at, decode};
 ghost use Rattle.spec.specs.Maps.{remap};
 ghost use Rattle.spec.specs.Pictures.{paint};
@@ -21,7 +21,7 @@ struct Place {
 }
 
 // The next opcode of an accepted chunk: it stands at s[at], and k blocks have had their turn. Picture and map are lent beside it, and that they have
-// the grid's size stands in each contract: a ghost field beside a `&mut` is not covered.
+// the grid's size stands in each contract: as fields they would have to be said to keep their `ghost_name` there, as many clauses as now.
 #[derive(Clone, Copy)]
 struct Opcode<'a> {
     grid: Grid,

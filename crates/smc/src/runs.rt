@@ -1,6 +1,6 @@
-// Runs of blocks in picture and map, each painted in place, one after the other. That both have the grid's size stands in each contract: they are lent by
-// `&mut`, beside which a struct can have no ghost field.
-ghost use Rattle.std.specs.Prelude.{◌≡◌, ℕ, ◌+◌, ◌*◌, ◌<◌, ◌≤◌, List, length, replicate, slice_index, slice_set};
+// Runs of blocks in picture and map, each painted in place, one after the other. That both have the grid's size, and that block k is one of the grid's,
+// stands in each contract: a struct with the two in it would have to say in each that they keep their `ghost_name`, as many clauses as these.
+ghost use Rattle.std.specs.Prelude.{◌≡◌, ℕ, ◌+◌, ◌*◌, ◌<◌, ◌≤◌, List, length, slice_index, slice_set};
 ghost use Rattle.spec.specs.Basics.{part};
 ghost use Rattle.spec.specs.Flags.{flags, chosen};
 ghost use Rattle.spec.specs.Pictures.{block_at, put_block};

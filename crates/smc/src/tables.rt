@@ -1,11 +1,11 @@
 // The three colour tables of a chunk. A table is one run of colours, entry after entry, and the number of its next entry.
-ghost use Rattle.std.specs.Prelude.{◌≡◌, ℕ, ◌+◌, ◌*◌, ◌/◌, ◌%◌, ◌<◌, ◌≤◌, true, length};
+ghost use Rattle.std.specs.Prelude.{◌≡◌, ℕ, ◌+◌, ◌*◌, ◌%◌, ◌<◌, ◌≤◌, true, length};
 ghost use Rattle.std.proofs.lemmas.List.Edits.{sets};
 ghost use Rattle.spec.specs.Basics.{part};
 ghost use Rattle.spec.specs.Chunks.{capacity, emptied};
 ghost use Rattle.smc.specs.Tables.{Holds, Entered, colours};
 
-// A table of so many colours to an entry, and so many in all.
+// A table of so many colours to an entry, and so many in all: two parameters, since the length of an array is no product of one.
 #[derive(Drop)]
 pub struct Table<const COLOURS: usize, const ALL: usize> {
     pub colours: [u8; ALL],
@@ -31,7 +31,7 @@ impl<const COLOURS: usize, const ALL: usize> Table<COLOURS, ALL> {
         ensures colours_after { self.new.colours ≡ sets self.old.colours (COLOURS * self.old.next) (part s.now q COLOURS) }
         ensures next_after { self.new.next ≡ (self.old.next + 1) % capacity }
     {
-        let e = COLOURS * self.next as usize;
+        let e = COLOURS * usize::from(self.next);
         let colours = &mut self.colours[..];
         colours[e..e + COLOURS].copy_from_slice(&s[q..q + COLOURS]);
         self.next = self.next.wrapping_add(1);
@@ -44,7 +44,7 @@ impl<const COLOURS: usize, const ALL: usize> Table<COLOURS, ALL> {
         ensures { Entered COLOURS self.old.colours self.old.next s.now q stores self.new.colours result.at result.rest self.new.next }
     {
         if stores {
-            let at = COLOURS * self.next as usize;
+            let at = COLOURS * usize::from(self.next);
             self.store(s, q);
             return Entry {
                 at,
@@ -52,7 +52,7 @@ impl<const COLOURS: usize, const ALL: usize> Table<COLOURS, ALL> {
             };
         }
         Entry {
-            at: COLOURS * s[q] as usize,
+            at: COLOURS * usize::from(s[q]),
             rest: q + 1,
         }
     }

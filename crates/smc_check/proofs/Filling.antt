@@ -84,11 +84,6 @@ module _ (u : ℕ) (h : u < 16) where
   unfolding if
   missing-none filled e t = missing-unnamed filled (kind_of u) e (eqb-true (names (kind_of u)) 0 (rw t at (test_at alike 16 none_named u h)))
 
-pub naming-after : (u : ℕ) → naming u ≡ true → 1 ≤ u
-unfolding naming if
-naming-after zero t = absurd (true≢false (sym t))
-naming-after (suc u) t = omega arith
-
 -- a table as a chunk fills it: until it is full the next entry is the first that is not filled
 pub record Filling (t : Table) : Type 0 where
   pub few : length t.cells ≤ capacity

@@ -75,9 +75,6 @@ unfolding open_in
 open_in-all [] = refl
 open_in-all (x ∷ m) = open_in-first (x ∷ m) 0 (length m) ∙ ap (λ (n : ℕ). is_open x + n) (open_in-rest x m 0 (length m) ∙ open_in-all m)
 
-pub open-small : (x : ℕ) → is_open x ≤ 1
-open-small x = none-or-one (eqb x settled)
-
 pub open_in-most : (m : List ℕ) (a w : ℕ) → open_in m a w ≤ w
 unfolding open_in
 open_in-most m a zero = omega arith

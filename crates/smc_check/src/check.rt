@@ -107,7 +107,7 @@ fn stated(s: &[u8]) -> usize
     requires { 4 ≤ length s.now }
     ensures { result ≡ number 256 (part s.now 1 3) }
 {
-    (usize::from(s[1]) * 256 + usize::from(s[2])) * 256 + usize::from(s[3])
+    u32::from_be_bytes([0, s[1], s[2], s[3]]) as usize
 }
 
 // Whether a chunk states its length, as its first four bytes do.

@@ -3,6 +3,7 @@ use Prim.Native.Nat.{ℕ, zero, suc, ◌+◌, ◌<◌, ◌≤◌}
 use mathlib.Core.Path.{◌≡◌, refl, sym, ap, ◌∙◌}
 use mathlib.Core.Logic.{◌≢◌}
 use mathlib.Core.List.{List, [], ◌∷◌, ◌++◌, map, append_assoc}
+use native.Mathlib.Nat.{add-zero, add-suc, suc-add}
 use native.Mathlib.Omega.{arith}
 use lib.ListN.{length, get_or, set, take, drop, length-drop, length-map, length-set}
 use borrow.Rule.Slice.PartMut.{put_mid}
@@ -47,11 +48,11 @@ map-drop f (suc a) (x ∷ l) = map-drop f a l
 pub map-part : (f : ℕ → ℕ) (l : List ℕ) (a w : ℕ) → map f (part l a w) ≡ part (map f l) a w
 map-part f l a w = map-take f w (drop a l) ∙ ap (take w) (map-drop f a l)
 
--- one element more, at the end
-part-more : (l : List ℕ) (a i : ℕ) → a + i < length l → part l a (suc i) ≡ part l a i ++ get_or l (a + i) 0 ∷ []
-part-more l a i h = take-suc (drop a l) i 0 (rw length-drop (omega arith)) ∙ rw get_or-drop
+-- a run of stores: one more at the end, elsewhere, and in its own place
+pub sets_more : (vs l : List ℕ) (i v : ℕ) → sets l i (vs ++ v ∷ []) ≡ set (sets l i vs) (i + length vs) v
+sets_more [] l i v = rw (add-zero i)
+sets_more (x ∷ vs) l i v = sets_more vs (set l i x) (suc i) v ∙ rw (add-suc i (length vs), suc-add i (length vs))
 
--- a run of stores: elsewhere, and in its own place
 pub sets-out : (l : List ℕ) (i : ℕ) (vs : List ℕ) (p d : ℕ) → ((j : ℕ) → j < length vs → p ≢ i + j) → get_or (sets l i vs) p d ≡ get_or l p d
 sets-out l i [] p d h = refl
 sets-out l i (v ∷ vs) p d h =

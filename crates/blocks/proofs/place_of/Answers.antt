@@ -1,6 +1,6 @@
 use native.Mathlib.Nat.{add-zero}
 use Rattle.spec.specs.Pictures.{place}
-use Rattle.blocks.proofs.grid.Grid.place_of.Goals as goal
+use Rattle.blocks.proofs.place_of.Goals as goal
 
 pub returns : goal.returns
 unfolding place
