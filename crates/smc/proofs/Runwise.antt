@@ -56,4 +56,3 @@ module _ (c r k n : ℕ) (f : ℕ → List ℕ → List ℕ) (e : ℕ → List �
 
     pub running-all : i ≡ n → (pic ≡ put_each c k f n pic₀) × (m ≡ mark_each k e n map₀)
     running-all ei = (rw ei at g.picture, rw ei at g.map)
-

@@ -42,29 +42,31 @@ impl Opcode<'_> {
         let n = lead.count;
         let body = lead.body;
         let k = self.k;
-        if 6 <= lead.upper {
-            let run = Plain {
-                blocks: n,
-                rows: Rows::of_colour(self.s[body]),
-            };
-            runs::put_run(&run, pic, map, self.grid, k);
-            return Place {
-                at: body + 1,
-                k: k + n,
-            };
+        match lead.upper {
+            6.. => {
+                let run = Plain {
+                    blocks: n,
+                    rows: Rows::of_colour(self.s[body]),
+                };
+                runs::put_run(&run, pic, map, self.grid, k);
+                Place {
+                    at: body + 1,
+                    k: k + n,
+                }
+            }
+            4..=5 => {
+                runs::copy_run(pic, map, self.grid, k, 2 * n, 2);
+                Place {
+                    at: body,
+                    k: k + 2 * n,
+                }
+            }
+            2..=3 => {
+                runs::copy_run(pic, map, self.grid, k, n, 1);
+                Place { at: body, k: k + n }
+            }
+            _ => Place { at: body, k: k + n },
         }
-        if 4 <= lead.upper {
-            runs::copy_run(pic, map, self.grid, k, 2 * n, 2);
-            return Place {
-                at: body,
-                k: k + 2 * n,
-            };
-        }
-        if 2 <= lead.upper {
-            runs::copy_run(pic, map, self.grid, k, n, 1);
-            return Place { at: body, k: k + n };
-        }
-        Place { at: body, k: k + n }
     }
 
     // Opcodes 8 and 9, A and B, C and D: one that stores an entry of a table, and one that names one.
