@@ -25,8 +25,6 @@ use Rattle.smc_check.specs.Tallying.{
   bit,
   both,
   is_settled,
-  twice,
-  settled_back,
   left,
   copied,
   touched,
@@ -549,13 +547,6 @@ module _ (m : List ℕ) (u k w : ℕ) (t : Running) (known : u < 15) (some : 1 �
   pub notes-plain : (0 < reach (kind_of u) → both t.one t.two ≡ true)
       → Notes m u k w t (record { now = t.now; one = left (touches u); two = second_of t.one (left (touches u)) w; lo = t.lo; hi = t.hi })
   notes-plain z hs s at st size g = by-sort st size g hs s at (sort u known) far even z
-
-pub looked-back : (t : Running) (r : ℕ) → r ≤ settled_back t → 0 < r → is_settled t ≡ true
-looked-back t r h some = by (is_settled t) h
-  where
-    by : (b : Bool) → r ≤ twice b → b ≡ true
-    by true h = refl
-    by false h = absurd (omega (arith, h, some))
 
 -- copies of blocks that may be open
 pub kind-repeats : (u : ℕ) → 2 ≤ u → u < 4 → kind_of u ≡ copy 1

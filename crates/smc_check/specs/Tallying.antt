@@ -100,13 +100,6 @@ both _ _ = false
 abbrev pub is_settled : Running → Bool
 is_settled t = both t.one t.two
 
-abbrev pub twice : Bool → ℕ
-twice true = 2
-twice false = 0
-
-abbrev pub settled_back : Running → ℕ
-settled_back t = twice (is_settled t)
-
 unfoldable pub second_of : Block → Block → ℕ → Block
 second_of one code w = if (eqb w 1) one code
 

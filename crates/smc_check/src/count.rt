@@ -5,7 +5,7 @@ ghost use Rattle.spec.specs.Answers.{ok};
 ghost use Rattle.spec.specs.Sizes.{max_blocks};
 ghost use Rattle.spec.specs.Maps.{unsettled};
 ghost use Rattle.spec.specs.Chunks.{decode, verdict};
-ghost use Rattle.smc_check.specs.Tallying.{bit, opened, left, copied, second_of, is_settled, settled_back, begun, summed};
+ghost use Rattle.smc_check.specs.Tallying.{bit, opened, left, copied, second_of, is_settled, begun, summed};
 ghost use Rattle.smc_check.specs.Tallying.{StandsAt, Tallied, Owing, Notes, Takes, Balanced, answer_of};
 
 use crate::check;
@@ -32,7 +32,8 @@ pub struct Running {
     pub hi: usize,
 }
 
-// The counting beside the check of a chunk for a board with this map.
+// The counting beside the check of a chunk for a board with this map. That it tallies with the blocks made so far stands in each contract, since how many
+// those are is another argument's.
 #[derive(Clone, Copy)]
 pub struct Counter<'a> {
     pub map: &'a [u16],
@@ -109,13 +110,6 @@ impl Running {
     {
         self.one == Block::Settled && self.two == Block::Settled
     }
-
-    // How far back they are: a number, so that one test tells whether an opcode reaches further.
-    fn settled_back(self) -> u8
-        ensures { result ≡ settled_back self }
-    {
-        if self.is_settled() { 2 } else { 0 }
-    }
 }
 
 impl<'a> Counter<'a> {
@@ -172,7 +166,7 @@ impl<'a> Counter<'a> {
         ensures { Notes self.entry.map.now run.entry.upper run.entry.first run.entry.blocks self.entry.t result }
     {
         let t = self.t;
-        if t.settled_back() < run.row.reach {
+        if 0 < run.row.reach && !t.is_settled() {
             return self.copied(run);
         }
         let left = Block::left(run.row.touches);
