@@ -5,15 +5,22 @@
 // (docs/DECISIONS.md).
 #![tactic(auto)]
 
-mod grid;
-
 ghost use Rattle.std.specs.Prelude.{◌≡◌, [], ◌∷◌, ◌+◌, ◌*◌, ◌≤◌, ◌<◌, true, length, replicate};
-ghost use Rattle.spec.specs.Sizes.{columns, lines, max_columns, max_blocks, max_width, allowed};
+ghost use Rattle.spec.specs.Sizes.{columns, lines, max_columns, max_lines, max_blocks, max_width, allowed};
 ghost use Rattle.spec.specs.Pictures.{place, block_at};
 ghost use Rattle.blocks.specs.Blocks.{row_of, pixels, row, rows, area};
 
-pub use grid::Grid;
 use spec::Size;
+
+// A picture's measure: how many blocks stand to a line, and how many lines of them there are, within the limits.
+#[derive(Clone, Copy)]
+pub struct Grid {
+    pub columns: usize,
+    pub lines: usize,
+    ghost wide: { 0 < columns },
+    ghost narrow: { columns ≤ max_columns },
+    ghost low: { lines ≤ max_lines },
+}
 
 // Four rows of four pixels each, the first pixel of a row lowest.
 #[derive(Clone, Copy, PartialEq, Eq)]

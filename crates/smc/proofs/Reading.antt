@@ -12,7 +12,7 @@ use Rattle.spec.specs.Chunks.{Outcome, decode, verdict}
 use Rattle.spec.specs.Boards.{Board, board, left, exact, paint_board, effect, recounted, read_exact, read}
 use Rattle.spec.proofs.Lists.{checked-none, checked_refused}
 use Rattle.spec.proofs.Limits.{no-fault-lengths}
-use Rattle.blocks.specs.declared.grid.Grid.{Grid}
+use Rattle.blocks.specs.declared.Grid.{Grid}
 use Rattle.blocks.proofs.Rowwise.{canvas}
 use Rattle.spec.proofs.Refused.{Numbered, refused, accepted, numbered}
 use Rattle.spec.proofs.Records.{newly-most}

@@ -23,7 +23,7 @@ use Rattle.spec.proofs.Lists.{checked-none, checked_refused}
 use Rattle.spec.proofs.Refusals.{refused-not-ok}
 use Rattle.spec.proofs.Limits.{no-fault-lengths, area as area-pixels}
 use Rattle.spec.proofs.Written.{length-encode}
-use Rattle.blocks.specs.declared.grid.Grid.{Grid}
+use Rattle.blocks.specs.declared.Grid.{Grid}
 use Rattle.blocks.specs.Blocks.{area}
 use Rattle.smc_writer.specs.declared.changes.Changes.{Changes}
 use Rattle.smc_writer.specs.Changes.{blocks_of, origins_of}

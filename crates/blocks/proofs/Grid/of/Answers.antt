@@ -1,5 +1,5 @@
 use Rattle.spec.proofs.Limits.{allowed-size}
-use Rattle.blocks.proofs.grid.Grid.of.Goals as goal
+use Rattle.blocks.proofs.Grid.of.Goals as goal
 
 pub invariant_of-result-clause-wide : goal.invariant_of-result-clause-wide
 invariant_of-result-clause-wide c = (allowed-size c.args.size c.requires).wide
