@@ -33,7 +33,8 @@ pub returns-then-not-is_ok-clause-value : goal.returns-then-not-is_ok-clause-val
 returns-then-not-is_ok-clause-value c = let a = c.args in
     let lent = lent_board a.picture.now a.map.now in
     let e = (fine a.size a.new.now lent a.out.now _ c.in_default.ensures refl).1 in
-    (told (trip-refused a.size a.new.now lent e a.out.now _ c.write_chunk-wrote.ensures.value _ c.write_chunk-wrote.ensures.out_after (eqb-false _ _ (search rules)))).0
+    (told (trip-refused a.size a.new.now lent e a.out.now _ c.write_chunk-wrote.ensures.value _ c.write_chunk-wrote.ensures.out_after
+    (eqb-false _ _ (search rules)))).0
 
 pub returns-then-not-is_ok-clause-picture_after : goal.returns-then-not-is_ok-clause-picture_after
 returns-then-not-is_ok-clause-picture_after c = let a = c.args in

@@ -48,7 +48,8 @@ returns-in_err-check_row-in-Data c =
 pub loop-y-preserved : goal.loop-y-preserved
 loop-y-preserved c =
     let l : c.loop-y.y < c.args.f.now.height = omega arith in
-    (_, frame-data c.loop-y.invariant.1 l (data-told c.in-Data.is c.in_ok-count.ensures.said) (rw (data-row _ c.args.f.now.width c.loop-y.at c.in-Data.is c.in_ok-count.ensures.read) at (sym c.in_ok-check_row-in-Data.ensures)))
+    let o = rw (data-row _ c.args.f.now.width c.loop-y.at c.in-Data.is c.in_ok-count.ensures.read) at c.in_ok-check_row-in-Data.ensures in
+    (_, frame-data c.loop-y.invariant.1 l (data-told c.in-Data.is c.in_ok-count.ensures.said) (sym o))
 
 pub returns : goal.returns
 returns c =
