@@ -105,7 +105,7 @@ impl Position {
         let mut x = 0;
         let mut next = r.first;
         while next < r.end {
-            // the check pass has read it, so it is never refused here
+            // no segment of an accepted frame is refused
             let Ok((segment, after)) = r.segment_at(x, next) else {
                 return;
             };
@@ -138,7 +138,7 @@ impl Position {
         let mut done = 0;
         let mut at = f.first;
         while done < height {
-            // an accepted frame has each of its rows, so none is refused here
+            // no row of an accepted frame is refused
             let Ok(head) = f.row_at(done, at) else {
                 return;
             };
