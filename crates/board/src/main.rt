@@ -14,7 +14,8 @@ fn print<W: Write>(out: &mut W, line: Line) -> io::Result<()> {
     out.write_all(line.as_slice())
 }
 
-// A line for each chunk, and the end line: `lines_step` (trust/specs/Lines) is this loop.
+// A line for each chunk, and the end line: `lines_step` (trust/specs/Lines) is this loop. It ends at the end of the feed, so no range bounds
+// the chunk's number.
 fn print_chunks<W: Write>(
     out: &mut W,
     lent: Record,

@@ -1,8 +1,7 @@
 // The fresh map with its record, and the unsettled count.
 #![tactic(auto)]
 
-ghost use Rattle.std.specs.Prelude.{◌≡◌, ◌<◌, length, eqb};
-ghost use Rattle.spec.specs.Basics.{if};
+ghost use Rattle.std.specs.Prelude.{◌≡◌, ◌<◌, length};
 ghost use Rattle.spec.specs.Maps.{settled, fresh, unsettled, fresh_map, count_map};
 
 use spec::{Answer, Count, Record, Recorded, SETTLED, Size};

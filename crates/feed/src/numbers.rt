@@ -12,15 +12,14 @@ pub fn varint_at(feed: &[u8], at: usize) -> Result<Varint, Refusal>
 {
     let mut scale = 1;
     let mut sum = 0;
-    let mut place = at;
-    for _i in 0..Varint::GROUPS {
+    for i in 0..Varint::GROUPS {
+        let place = at + i;
         if place >= feed.len() {
             return Err(Refusal::FeedCut);
         }
-        let group = feed[place] as usize;
-        place += 1;
+        let group = usize::from(feed[place]);
         if group < 128 {
-            return last_group(scale, group, sum + group * scale, place);
+            return last_group(scale, group, sum + group * scale, place + 1);
         }
         sum += (group - 128) * scale;
         scale *= 128;

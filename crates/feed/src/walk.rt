@@ -1,5 +1,6 @@
-// The walk of a feed or of a run of chunks, chunk by chunk over a lent picture and map, with their record. The three are lent one by one, as C lends them:
-// a struct of them could not say that they fit, since a ghost field beside a `&mut` is not covered.
+// The walk of a feed or of a run of chunks, chunk by chunk over a lent picture and map, with their record. The public functions take the three one
+// by one, as C lends them; of a struct each inner contract would have to say that picture and map keep their `ghost_name` (the kit's
+// docs/BORROWS.md), which is as many clauses as the lengths here.
 ghost use Rattle.std.specs.Prelude.{◌≡◌, length};
 ghost use Rattle.spec.specs.Answers.{ok, answer, number_of, refusal_number};
 ghost use Rattle.spec.specs.Sizes.{blocks};
@@ -69,7 +70,7 @@ pub fn step(kept: Record, feed: &[u8], at: usize, picture: &mut [u8], map: &mut 
     ensures map_after { map.new ≡ (walk_step kept.size feed.now at (board picture.old map.old kept.unsettled)).board.map }
 {
     if let Err(why) = sizes::check_board(kept.size, picture.len(), map.len()) {
-        return no_chunk(kept, at, refusal(why, 0));
+        return no_chunk(kept, at, Answer::from(why));
     }
     step_behind(kept, feed, at, picture, map)
 }
@@ -130,7 +131,7 @@ fn walk_chunks(
 {
     if let Err(why) = checked {
         return Tally {
-            answer: refusal(why, 0),
+            answer: Answer::from(why),
             accepted: 0,
             kept,
         };
@@ -146,10 +147,9 @@ pub fn walk_feed(kept: Record, feed: &[u8], picture: &mut [u8], map: &mut [u16])
     ensures map_after { map.new ≡ (walk kept.size feed.now (board picture.old map.old kept.unsettled)).board.map }
 {
     let own = numbers::feed_size(feed);
-    let refusal = own.answer;
-    if !refusal.is_ok() {
+    if !own.answer.is_ok() {
         return Recorded {
-            answer: refusal,
+            answer: own.answer,
             kept,
         };
     }

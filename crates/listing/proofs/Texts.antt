@@ -1,12 +1,22 @@
--- Text made from its end: a number's digits. Assumes nothing.
-use Prim.Native.Nat.{ℕ, zero, suc, ◌+◌, ◌*◌, ◌/◌, ◌%◌, ◌^◌, ◌<◌, ◌≤◌}
+-- Text made from its end: one byte in front, and a number's digits. Assumes nothing.
+use Prim.Native.Nat.{ℕ, zero, suc, ◌+◌, ◌-◌, ◌*◌, ◌/◌, ◌%◌, ◌^◌, ◌<◌, ◌≤◌}
 use mathlib.Core.Path.{◌≡◌, refl, sym, ap, ◌∙◌}
 use mathlib.Core.List.{List, ◌∷◌}
 use native.Mathlib.Nat.{pow-succ'}
 use native.Mathlib.Omega.{arith}
+use lib.ListN.{length, set, drop, length-set}
+use lib.Seq.{drop-cons, drop-set-lt, get_or-set_same}
 use borrow.Author.Tests.{ne_eqb}
 use Rattle.spec.specs.Basics.{if}
 use Rattle.spec.specs.Listing.{digit, higher_digits}
+
+-- A byte in front of what stands from `end` on, for whoever makes text in a list at its end. The check finds `put_byte` without it.
+pub front : (l : List ℕ) (end v : ℕ) → 1 ≤ end → end ≤ length l → drop (end - 1) (set l (end - 1) v) ≡ v ∷ drop end l
+front l end v some fits =
+    let e : suc (end - 1) ≡ end = omega arith in
+    let h : end - 1 < length l = omega arith in
+    drop-cons (set l (end - 1) v) (end - 1) 0 (rw length-set h)
+    ∙ rw (get_or-set_same l (end - 1) v 0 h, e, drop-set-lt end l (end - 1) v (omega arith))
 
 -- of the number n, `higher` is still to be put in front of the text, in at most so many digits
 pub record Spelling (n : ℕ) (before : List ℕ) (end at higher : ℕ) (text : List ℕ) : Type 0 where

@@ -24,7 +24,7 @@ pub fn write_and_read(
         return Answer::from(why);
     }
     let wrote = smc_writer::write_chunk(size, picture, new, out);
-    if wrote.number != Answer::OK {
+    if !wrote.is_ok() {
         return wrote;
     }
     let length = wrote.place;

@@ -18,7 +18,9 @@ use Rattle.spec.specs.Answers.{refusal_number}
 use Rattle.std.specs.Prelude.{Ok, Err}
 use Rattle.sprite.specs.declared.heads.RowHead as Read
 use Rattle.sprite.specs.declared.heads.RowHead.TheVariants as Code
-use Rattle.sprite.specs.Read.{row_head_result}
+use Rattle.sprite.specs.declared.files.Row.{Row}
+use Rattle.sprite.specs.Held.{row_of}
+use Rattle.sprite.specs.Read.{row_head_result, RowRead}
 use Rattle.sprite.specs.Frames.{RowHead, Shade, Reading, reading, Ended, ended, follow, code_at, count_at, blank_code, data_code, end_code}
 use Rattle.sprite.specs.Frames.{row_at, row_head_says, row, data_turn, row_turn, marker, rows_from}
 use Rattle.sprite.proofs.Gathering.{Onward, stops, goes, gather-end, gather-turn}
@@ -39,8 +41,11 @@ row-head-same (RowHead.Data end) (RowHead.Data last) h = ap (λ (l : List ℕ). 
 pub blank-told : {x : Read.RowHead} {n : ℕ} {y : RowHead} → x ≡ Code.Blank n → row_head_result (Ok x) ≡ row_head_says y → RowHead.Blank n ≡ y
 blank-told {x} {n} {y} g e = row-head-same (RowHead.Blank n) y (rw g at e)
 
-pub data-told : {x : Read.RowHead} {end : ℕ} {y : RowHead} → x ≡ Code.Data end → row_head_result (Ok x) ≡ row_head_says y → RowHead.Data end ≡ y
-data-told {x} {end} {y} g e = row-head-same (RowHead.Data end) y (rw g at e)
+pub data-told : {x : Read.RowHead} {r : Row} {y : RowHead} → x ≡ Code.Data r → row_head_result (Ok x) ≡ row_head_says y → RowHead.Data r.end ≡ y
+data-told {x} {r} {y} g e = row-head-same (RowHead.Data r.end) y (rw g at e)
+
+pub data-row : (s : List ℕ) (width at : ℕ) {x : Read.RowHead} {r : Row} → x ≡ Code.Data r → RowRead s width at x → row_of r ≡ row s width (at + 2) r.end
+data-row s width at g e = rw g at e
 
 pub row-head-refused : (why : Refusal) (y : RowHead) → row_head_result (Err why) ≡ row_head_says y → (RowHead.Bad ≡ y) × (refusal_number why ≡ bad_row)
 row-head-refused why RowHead.Bad e = (refl, ap (λ (l : List ℕ). get_or l 0 0) e)

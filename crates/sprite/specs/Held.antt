@@ -2,7 +2,7 @@
 -- have facts of their own and may not be named where those are stated.
 use Rattle.std.specs.Prelude.{List}
 use Rattle.sprite.specs.declared.files.Frame.{Frame}
-use Rattle.sprite.specs.declared.heads.Row.{Row}
+use Rattle.sprite.specs.declared.files.Row.{Row}
 use Rattle.sprite.specs.Frames.{Shade, Ended, row, rows}
 
 abbrev pub row_of : Row → Ended Shade

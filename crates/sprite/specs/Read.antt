@@ -1,7 +1,8 @@
 -- What the code reads of a frame, set out as the definitions' is, and 001's codes as the code has them. Assumes nothing.
-use Rattle.std.specs.Prelude.{ℕ, ◌≡◌, List, [], ◌∷◌, map, length, replicate, Result, Ok, Err}
+use Rattle.std.specs.Prelude.{ℕ, ◌+◌, ◌≡◌, List, [], ◌∷◌, map, length, replicate, Result, Ok, Err}
 use Rattle.spec.specs.declared.Refusal.{Refusal}
 use Rattle.spec.specs.Answers.{ok, refusal_number}
+use Rattle.sprite.specs.Held.{row_of}
 use Rattle.sprite.specs.declared.heads.Segment.{Segment}
 use Rattle.sprite.specs.declared.heads.SegmentCode.{SegmentCode}
 use Rattle.sprite.specs.declared.heads.SegmentCode.TheVariants as Of
@@ -9,7 +10,7 @@ use Rattle.sprite.specs.declared.heads.RowHead.{RowHead}
 use Rattle.sprite.specs.declared.heads.RowHead.TheVariants as Head
 use Rattle.sprite.specs.declared.heads.RowCode.{RowCode}
 use Rattle.sprite.specs.declared.heads.RowCode.TheVariants as At
-use Rattle.sprite.specs.Frames.{Shade, background, colour, clear_code, run_code, copy_code, data_code, blank_code}
+use Rattle.sprite.specs.Frames.{Shade, row, background, colour, clear_code, run_code, copy_code, data_code, blank_code}
 
 -- the number of each code
 abbrev pub segment_code : SegmentCode → ℕ
@@ -40,4 +41,9 @@ segment_result (Ok x) = ok ∷ length (shown x.0) ∷ x.1 ∷ []
 abbrev pub row_head_result : Result RowHead Refusal → List ℕ
 row_head_result (Err why) = refusal_number why ∷ []
 row_head_result (Ok (Head.Blank n)) = ok ∷ blank_code ∷ n ∷ []
-row_head_result (Ok (Head.Data end)) = ok ∷ data_code ∷ end ∷ []
+row_head_result (Ok (Head.Data r)) = ok ∷ data_code ∷ r.end ∷ []
+
+-- a row with data is the file's, in a frame of this width, behind its head of two bytes
+abbrev pub RowRead : List ℕ → ℕ → ℕ → RowHead → Type 0
+RowRead s width at (Head.Blank n) = Unit {0}
+RowRead s width at (Head.Data r) = row_of r ≡ row s width (at + 2) r.end

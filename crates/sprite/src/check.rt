@@ -4,14 +4,15 @@ ghost use Rattle.spec.specs.Answers.{number_of};
 ghost use Rattle.sprite.specs.Frames.{marker, frame};
 ghost use Rattle.sprite.specs.Held.{row_of, rows_of};
 
-use crate::files::Frame;
-use crate::heads::{Row, RowHead};
+use crate::files::{Frame, Row};
+use crate::heads::RowHead;
 use spec::Refusal;
 
 // What follows the rows. specs/Frames.antt has its code as `end_code`.
 const END_MARKER: [u8; 2] = [5, 0];
 
-// 19 for the segments of a row with data.
+// 19 for the segments of a row with data. `paint_row` walks them too, and paints: one walk for both would take what to do with each segment as
+// a closure that lends the picture, which is no plainer. So it is with `check_rows` and `paint`.
 fn check_row(r: &Row) -> Result<(), Refusal>
     ensures { number_of result ≡ (row_of r.now).number }
 {
@@ -49,16 +50,10 @@ fn check_rows(f: &Frame) -> Result<(), Refusal>
                 y += count;
                 at += 2;
             }
-            RowHead::Data(end) => {
-                let r = Row {
-                    s: f.s,
-                    width: f.width,
-                    first: at + 2,
-                    end,
-                };
+            RowHead::Data(r) => {
                 check_row(&r)?;
                 y += 1;
-                at = end;
+                at = r.end;
             }
         }
     }

@@ -1,4 +1,4 @@
-// A sprite file's head and offset table, and a frame's head. Here s is the file.
+// A sprite file's head and offset table, a frame's head, and what is held of a frame and of a row with data. Here s is the file.
 ghost use Rattle.std.specs.Prelude.{◌≡◌, ◌≤◌, ◌<◌, ◌^◌, length};
 ghost use Rattle.sprite.specs.Files.{is_sprite, is_frame};
 
@@ -22,10 +22,7 @@ fn is_sprite(s: &[u8]) -> bool
         return false;
     }
     let version = bytes::long(s, 0);
-    if version < FIRST_VERSION {
-        return false;
-    }
-    if version > LAST_VERSION {
+    if version < FIRST_VERSION || LAST_VERSION < version {
         return false;
     }
     HEAD_BYTES + 4 * bytes::long(s, 4) as usize <= s.len()
@@ -52,8 +49,19 @@ pub struct Frame<'a> {
     ghost within: { first ≤ length s.now },
 }
 
+// A row with data, in a frame of this width: its segments stand from s[first] up to s[end].
+#[derive(Clone, Copy)]
+pub struct Row<'a> {
+    pub s: &'a [u8],
+    pub width: u16,
+    pub first: usize,
+    pub end: usize,
+    ghost order: { first ≤ end },
+    ghost within: { end ≤ length s.now },
+}
+
 impl<'a> Frame<'a> {
-    // here, since it names the type
+    // here, since specs/Held names `Frame`: at the top of the file, `Frame` would import itself
     ghost use Rattle.std.specs.Prelude.{◌≡◌, IfOk};
     ghost use Rattle.spec.specs.Answers.{number_of};
     ghost use Rattle.sprite.specs.Files.{frame_fault};

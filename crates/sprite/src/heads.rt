@@ -2,9 +2,9 @@
 ghost use Rattle.std.specs.Prelude.{◌≡◌, ◌-◌, ◌≤◌, length, IfOk};
 ghost use Rattle.spec.specs.Answers.{bad_row, bad_segment};
 ghost use Rattle.sprite.specs.Frames.{segment_bytes, segment_at, segment_says, shades, row_at, row_head_says};
-ghost use Rattle.sprite.specs.Read.{Decodes, segment_code, shown, segment_result, row_code, row_head_result};
+ghost use Rattle.sprite.specs.Read.{Decodes, segment_code, shown, segment_result, row_code, row_head_result, RowRead};
 
-use crate::files::Frame;
+use crate::files::{Frame, Row};
 use spec::Refusal;
 
 // 001's codes of segments.
@@ -65,17 +65,6 @@ impl Segment<'_> {
     }
 }
 
-// A row with data, in a frame of this width: its segments stand from s[first] up to s[end].
-#[derive(Clone, Copy)]
-pub struct Row<'a> {
-    pub s: &'a [u8],
-    pub width: u16,
-    pub first: usize,
-    pub end: usize,
-    ghost order: { first ≤ end },
-    ghost within: { end ≤ length s.now },
-}
-
 impl<'a> Row<'a> {
     // The segment at s[at], behind x pixels of the row, and the place after it; or 19.
     pub fn segment_at(&self, x: usize, at: usize) -> Result<(Segment<'a>, usize), Refusal>
@@ -131,19 +120,20 @@ impl TryFrom<u8> for RowCode {
     }
 }
 
-// A row's head: so many rows of background; or a row with data up to a place.
+// A row's head: so many rows of background; or a row with data.
 #[derive(Clone, Copy)]
-pub enum RowHead {
+pub enum RowHead<'a> {
     Blank(usize),
-    Data(usize),
+    Data(Row<'a>),
 }
 
-impl Frame<'_> {
+impl<'a> Frame<'a> {
     // The head of the row at s[at], behind so many rows of the frame; or 18.
-    pub fn row_at(&self, done: usize, at: usize) -> Result<RowHead, Refusal>
+    pub fn row_at(&self, done: usize, at: usize) -> Result<RowHead<'a>, Refusal>
         requires done_le_height { done ≤ self.now.height }
         requires at_in_bounds { at ≤ length self.now.s.now }
-        ensures { row_head_result result ≡ row_head_says (row_at self.now.s.now (self.now.height - done) at) }
+        ensures said { row_head_result result ≡ row_head_says (row_at self.now.s.now (self.now.height - done) at) }
+        ensures read { IfOk result (λ h. RowRead self.now.s.now self.now.width at h) }
     {
         let s = self.s;
         if s.len() - at < 2 {
@@ -153,7 +143,15 @@ impl Frame<'_> {
         let count = usize::from(s[at + 1]);
         match RowCode::try_from(s[at])? {
             RowCode::Blank if count <= room => Ok(RowHead::Blank(count)),
-            RowCode::Data if 4 <= count && count <= s.len() - at => Ok(RowHead::Data(at + count)),
+            RowCode::Data if 4 <= count && count <= s.len() - at => {
+                let r = Row {
+                    s,
+                    width: self.width,
+                    first: at + 2,
+                    end: at + count,
+                };
+                Ok(RowHead::Data(r))
+            }
             _ => Err(Refusal::BadRow),
         }
     }

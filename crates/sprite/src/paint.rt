@@ -5,11 +5,11 @@ ghost use Rattle.spec.specs.Answers.{ok};
 ghost use Rattle.spec.specs.Sizes.{pixels};
 ghost use Rattle.sprite.specs.Held.{row_of, rows_of};
 ghost use Rattle.sprite.specs.Read.{shown};
-ghost use Rattle.sprite.specs.Symbols.{placed, overlay};
+ghost use Rattle.sprite.specs.Symbols.{overlay};
 ghost use Rattle.sprite.specs.Strips.{origin, from_least, strip, sheet, Clipped};
 
-use crate::files::Frame;
-use crate::heads::{Row, RowHead, Segment};
+use crate::files::{Frame, Row};
+use crate::heads::{RowHead, Segment};
 use spec::Size;
 
 // The picture's first column and row. specs/Strips.antt has it as `origin`.
@@ -50,7 +50,8 @@ fn clip(width: usize, left: usize, count: usize) -> Visible
 }
 
 // Where a frame is painted: on a picture of this size, its upper left pixel at this column and row. That the lent picture has the size stands
-// in each contract: a struct with the `&mut` in it can have no ghost field.
+// in each contract: of a struct with the picture in it each would have to say that it keeps its `ghost_name` (the kit's docs/BORROWS.md), which
+// is as many clauses.
 #[derive(Clone, Copy)]
 pub struct Position {
     size: Size,
@@ -104,6 +105,7 @@ impl Position {
         let mut x = 0;
         let mut next = r.first;
         while next < r.end {
+            // no segment of an accepted frame is refused
             let Ok((segment, after)) = r.segment_at(x, next) else {
                 return;
             };
@@ -136,6 +138,7 @@ impl Position {
         let mut done = 0;
         let mut at = f.first;
         while done < height {
+            // no row of an accepted frame is refused
             let Ok(head) = f.row_at(done, at) else {
                 return;
             };
@@ -144,16 +147,10 @@ impl Position {
                     done += count;
                     at += 2;
                 }
-                RowHead::Data(end) => {
-                    let r = Row {
-                        s: f.s,
-                        width: f.width,
-                        first: at + 2,
-                        end,
-                    };
+                RowHead::Data(r) => {
                     self.paint_line(&r, usize::from(self.top) + done, picture);
                     done += 1;
-                    at = end;
+                    at = r.end;
                 }
             }
         }

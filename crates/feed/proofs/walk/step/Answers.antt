@@ -9,7 +9,7 @@ pub returns-in-Err-clause-value : goal.returns-in-Err-clause-value
 returns-in-Err-clause-value c = let a = c.args in
     let b = board a.picture.now a.map.now a.kept.unsettled in
     let e = step-refused a.kept.size a.feed.now a.at b c.in-Err.ensures (refused-not-ok c.in-Err.why) in
-    rw e (c.no_chunk.ensures ∙ ap (no_chunk _ _) c.refusal.ensures)
+    rw e (c.no_chunk.ensures ∙ ap (no_chunk _ _) c.from.ensures)
 
 pub returns-in-Err-clause-picture_after : goal.returns-in-Err-clause-picture_after
 returns-in-Err-clause-picture_after c = let a = c.args in

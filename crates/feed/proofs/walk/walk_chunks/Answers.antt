@@ -10,7 +10,7 @@ pub returns-in-Err-clause-value : goal.returns-in-Err-clause-value
 returns-in-Err-clause-value c = let a = c.args in
     let cs = chunks_from (length a.feed.now) a.feed.now a.first in
     let e = chunks-refused a.kept.size cs (board a.picture.now a.map.now a.kept.unsettled) (refused-not-ok c.in-Err.why) in
-    let own = c.refusal.ensures in
+    let own = c.from.ensures in
     rw (c.in-Err.is, e) ((λ i. record { answer = own i; accepted = 0; kept = a.kept }))
 
 pub returns-in-Err-clause-picture_after : goal.returns-in-Err-clause-picture_after

@@ -10,10 +10,6 @@ pub returns-then-version-lt-FIRST_VERSION : goal.returns-then-version-lt-FIRST_V
 unfolding is_sprite
 returns-then-version-lt-FIRST_VERSION c = rw (← c.long-version.ensures) (search cases)
 
-pub returns-then-version-gt-LAST_VERSION : goal.returns-then-version-gt-LAST_VERSION
-unfolding is_sprite
-returns-then-version-gt-LAST_VERSION c = rw (← c.long-version.ensures) (search cases)
-
 pub returns : goal.returns
 unfolding is_sprite
 returns c = rw (← c.long-version.ensures, ← c.long.ensures) (search cases)

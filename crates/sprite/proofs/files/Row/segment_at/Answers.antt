@@ -11,7 +11,7 @@ use Rattle.sprite.specs.Frames.{segment_at, segment_bytes, shades, code_at, coun
 use Rattle.spec.specs.Answers.{refusal_number}
 use Rattle.sprite.specs.Read.{segment_code, segment_result}
 use Rattle.sprite.proofs.Segments.{bytes_run, bytes-copy, some-bytes, no-bytes, pixels-at}
-use Rattle.sprite.proofs.heads.Row.segment_at.Goals as goal
+use Rattle.sprite.proofs.files.Row.segment_at.Goals as goal
 
 pub returns-then-self-at-lt2-clause-said : goal.returns-then-self-at-lt2-clause-said
 unfolding segment_at if
