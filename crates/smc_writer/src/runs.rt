@@ -41,11 +41,9 @@ impl Changes<'_> {
         requires leads { leads_of self.now k (pixels rows) }
         ensures { result.blocks ≡ run_of self.now k }
     {
-        for m in 1..MAX_RUN {
-            if self.ends_at(k, rows, k + m) {
-                return RunLength { blocks: m };
-            }
-        }
-        RunLength { blocks: MAX_RUN }
+        let blocks = (1..MAX_RUN)
+            .find(|m| self.ends_at(k, rows, k + *m))
+            .unwrap_or(MAX_RUN);
+        RunLength { blocks }
     }
 }
