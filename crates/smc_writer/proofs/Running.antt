@@ -1,5 +1,5 @@
 -- How far a run goes: whether it ends before a block, and its length on the way. Assumes nothing.
-use Prim.Native.Nat.{ℕ, zero, suc, ◌+◌, ◌-◌, ◌<◌, ◌≤◌}
+use Prim.Native.Nat.{ℕ, suc, ◌+◌, ◌-◌, ◌<◌, ◌≤◌}
 use mathlib.Core.Path.{◌≡◌, refl, sym, ap, ◌∙◌}
 use mathlib.Core.Bool.{Bool, true, false, not, ◌&&◌, true≢false}
 use mathlib.Core.List.{List, [], ◌∷◌, ◌++◌}
@@ -7,8 +7,6 @@ use native.Mathlib.Omega.{arith}
 use lib.Dec.{ltb}
 use lib.ListN.{get_or, drop, length-drop}
 use borrow.Author.Tests.{lt-ltb, le-ltb, ltb-true, ltb-false}
-use Rattle.std.specs.Prelude.{Option, Some, None}
-use Rattle.std.specs.Option.{MatchOption, unwrap_or}
 use Rattle.spec.specs.Basics.{if, same}
 use Rattle.spec.specs.Pictures.{Origin, given, held, block_at}
 use Rattle.spec.specs.Writing.{single, counting, plain, opcode_for, joins, alike, max_run}
@@ -108,25 +106,6 @@ module _ (c n : ℕ) (kept : List Bool) (new : List ℕ) (k : ℕ) where
         let q : suc (k + m) ≡ k + (m + 1) = omega arith in
         let e = rw (z, origins-cons c n kept new (k + m) g.0, g.1, q) at s.so_far in
         record { some = omega arith; most = omega arith; within = omega (arith, g.0); so_far = omega arith }
-
--- a run's length by a search for the first block that ends it
-module _ (c n : ℕ) (kept : List Bool) (new : List ℕ) (k : ℕ) (h : k < n) where
-  on_to : (m : ℕ) → m < max_run → ((j : ℕ) → 1 ≤ j → j ≤ m → ends_at c n kept new k (k + j) ≡ false) → Counting c n kept new k (m + 1)
-  on_to zero l f = counting-starts c n kept new k h
-  on_to (suc m) l f =
-      let e : suc m ≡ m + 1 = omega arith in
-      let so_far = on_to m (omega arith) (λ j a b. f j a (omega arith)) in
-      rw e (counting-on c n kept new k (m + 1) so_far (omega arith) (f (m + 1) (omega arith) (omega arith)))
-
-  pub run-found : (r : Option ℕ)
-      → MatchOption r ((j : ℕ) → 1 ≤ j → j < max_run → ends_at c n kept new k (k + j) ≡ false)
-      (λ m. (1 ≤ m) × (m < max_run) × (ends_at c n kept new k (k + m) ≡ true) × ((j : ℕ) → 1 ≤ j → j < m → ends_at c n kept new k (k + j) ≡ false))
-      → unwrap_or r max_run ≡ run_at c n kept new k
-  run-found None f = counting-full c n kept new k 256 (on_to 255 (omega arith) (λ j a b. f j a (omega arith))) (omega arith)
-  run-found (Some m) f =
-      let e : m - 1 + 1 ≡ m = omega (arith, f.0) in
-      let so_far = on_to (m - 1) (omega (arith, f.1)) (λ j a b. f.3 j a (omega (arith, f.0))) in
-      counting-stops c n kept new k m (rw e at so_far) f.2
 
 -- a run has blocks, at most so many, and those there are
 pub record Ran (n k m : ℕ) : Type 0 where

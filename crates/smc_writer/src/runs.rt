@@ -16,6 +16,7 @@ pub struct RunLength {
     ghost most: { blocks ≤ max_run },
 }
 
+// `k_bound` is a clause of each: a struct that holds it would be made anew for each block, by a fact for each, so it would be no plainer.
 impl Changes<'_> {
     // Whether a run of kept blocks, or one of changed blocks with these rows, that began at block k ends before block j.
     fn ends_at(&self, k: usize, rows: Rows, j: usize) -> bool
@@ -41,9 +42,12 @@ impl Changes<'_> {
         requires leads { leads_of self.now k (pixels rows) }
         ensures { result.blocks ≡ run_of self.now k }
     {
-        let blocks = (1..MAX_RUN)
-            .find(|m| self.ends_at(k, rows, k + *m))
-            .unwrap_or(MAX_RUN);
-        RunLength { blocks }
+        // a loop: as `(1..MAX_RUN).find(..)` the writer took 18 % longer on frames of which every block is changed
+        for m in 1..MAX_RUN {
+            if self.ends_at(k, rows, k + m) {
+                return RunLength { blocks: m };
+            }
+        }
+        RunLength { blocks: MAX_RUN }
     }
 }
