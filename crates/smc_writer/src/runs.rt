@@ -16,7 +16,7 @@ pub struct RunLength {
     ghost most: { blocks ≤ max_run },
 }
 
-// `k_bound` is a clause of each: a struct that holds it would be made anew for each block, by a fact for each, so it would be no plainer.
+// `k_bound` is a clause of each method: a struct of it would be made anew for each block, where the same fact is due, so it is no plainer.
 impl Changes<'_> {
     // Whether a run of kept blocks, or one of changed blocks with these rows, that began at block k ends before block j.
     fn ends_at(&self, k: usize, rows: Rows, j: usize) -> bool
