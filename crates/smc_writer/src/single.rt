@@ -5,7 +5,7 @@ ghost use Rattle.smc_writer.specs.Tables.{bits};
 ghost use Rattle.smc_writer.specs.Put.{over};
 
 use crate::colours::Colours;
-use crate::flags::Entries;
+use crate::flags;
 use crate::table::Table;
 
 // Bytes, from a place of the output on.
@@ -25,15 +25,13 @@ fn put_tabled(out: &mut [u8], table: Table, list: &[u8; 16], px: &[u8; 16]) -> u
     ensures value { result ≡ length (tabled (bits table) (entries (bits table) (colours px.now)) px.now) }
     ensures out_after { out.new ≡ onto (tabled (bits table) (entries (bits table) (colours px.now)) px.now) out.old }
 {
-    let entries = Entries {
-        list: &list[..table.size()],
-    };
-    let bytes = entries.flag_bytes(table, px);
+    let entry = &list[..table.size()];
+    let bytes = flags::flag_bytes(table, entry, px);
     let flags = &bytes[..2 * table.bits()];
     out[0] = table.opcode();
-    put_bytes(out, 1, entries.list);
-    put_bytes(out, 1 + entries.list.len(), flags);
-    1 + entries.list.len() + flags.len()
+    put_bytes(out, 1, entry);
+    put_bytes(out, 1 + entry.len(), flags);
+    1 + entry.len() + flags.len()
 }
 
 // Under E: its sixteen pixels.

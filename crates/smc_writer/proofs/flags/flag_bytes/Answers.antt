@@ -1,6 +1,6 @@
 use mathlib.Core.Path.{◌∙◌}
 use Rattle.smc_writer.proofs.RowNumbers.{counted-below, counted-packed}
-use Rattle.smc_writer.proofs.flags.Entries.flag_bytes.Goals as goal
+use Rattle.smc_writer.proofs.flags.flag_bytes.Goals as goal
 
 pub pack-requires : goal.pack-requires
 pack-requires c = counted-below c.args.table c.args.px.now c.told-px c.requires.fits c.requires.stored
