@@ -9,7 +9,7 @@ ghost use Rattle.smc_writer.specs.Flags.{under, packed};
 use crate::table::Table;
 
 // How many of some entries are below a colour. Entries rise: this is the lowest that fits, where one does. That they are at most eight is a
-// clause here and below: with a struct that knows it, the writer took 15 % longer on frames of which every block is changed.
+// clause here and below: with a struct that knows it, the writer took up to 15 % longer on frames of which every block is changed.
 fn entry_of(list: &[u8], colour: u8) -> u16
     requires { length list.now ≤ 8 }
     ensures value { result ≡ under list.now colour }

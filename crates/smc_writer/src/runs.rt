@@ -42,7 +42,7 @@ impl Changes<'_> {
         requires leads { leads_of self.now k (pixels rows) }
         ensures { result.blocks ≡ run_of self.now k }
     {
-        // a loop: with `(1..MAX_RUN).find(..)` the writer took 15 % longer on frames of which every block is changed
+        // a loop: with `(1..MAX_RUN).find(..)` the writer took up to 15 % longer on frames of which every block is changed
         for m in 1..MAX_RUN {
             if self.ends_at(k, rows, k + m) {
                 return RunLength { blocks: m };
