@@ -88,11 +88,11 @@ module _ (u m : ℕ) where
         (ap (λ (l : List ℕ). set l 1 (m - 1)) (onto-set [] o 0 (16 * (u + 1)) refl (omega arith)) ∙ onto-set (16 * (u + 1) ∷ []) o 1 (m - 1) refl room)
 
 -- a block under 8, A or C: an opcode, its colours and its flags, one behind the other
-pub table-put : (b : ℕ) (es px o : List ℕ) {n : ℕ} → n ≡ b → {es' fs : List ℕ} → es' ≡ es → fs ≡ flag_bytes b (map (entry_of es) px)
-    → 1 + length es' + length fs ≤ length o → {l m : List ℕ} → l ≡ over 1 es' (set o 0 (16 * (6 + 2 * n))) → m ≡ over (1 + length es') fs l
+pub table-put : (b : ℕ) (es px o : List ℕ) {op : ℕ} → op ≡ 16 * (6 + 2 * b) → {es' fs : List ℕ} → es' ≡ es → fs ≡ flag_bytes b (map (entry_of es) px)
+    → 1 + length es' + length fs ≤ length o → {l m : List ℕ} → l ≡ over 1 es' (set o 0 op) → m ≡ over (1 + length es') fs l
     → m ≡ onto (tabled b es px) o
 unfolding tabled
-table-put b es px o {n} eb {es'} {fs} ee ef room el em =
-    em ∙ ap (over (1 + length es') fs) (el ∙ over_first (16 * (6 + 2 * n)) es' o (omega arith))
-    ∙ over-onto (16 * (6 + 2 * n) ∷ es') fs o (1 + length es') (omega arith)
-    ∙ (λ i. onto (16 * (6 + 2 * eb i) ∷ ee i ++ ef i) o)
+table-put b es px o {op} eo {es'} {fs} ee ef room el em =
+    em ∙ ap (over (1 + length es') fs) (el ∙ over_first op es' o (omega arith))
+    ∙ over-onto (op ∷ es') fs o (1 + length es') (omega arith)
+    ∙ (λ i. onto (eo i ∷ ee i ++ ef i) o)

@@ -1,4 +1,4 @@
-// What a chunk has to say.
+// What a chunk has to say. It has a file of its own, since it imports every `ghost use` of its file, and those beside its methods name it.
 ghost use Rattle.std.specs.Prelude.{◌≡◌, ◌*◌, ◌≤◌, length};
 ghost use Rattle.blocks.specs.Blocks.{area};
 

@@ -12,7 +12,7 @@ pub fn flag_kept(kept: &mut [bool], grid: Grid, old: &[u8], new: &[u8])
     requires enough { grid.columns * grid.lines ≤ length kept.old }
     ensures { Flagged grid.columns (grid.columns * grid.lines) old.now new.now kept.new }
 {
-    for k in 0..grid.blocks() {
-        kept[k] = grid.block_at(old, k) == grid.block_at(new, k);
+    for (k, flag) in kept[..grid.blocks()].iter_mut().enumerate() {
+        *flag = grid.block_at(old, k) == grid.block_at(new, k);
     }
 }

@@ -106,6 +106,7 @@ impl Changes<'_> {
     }
 
     // The opcodes of all blocks: each run behind those before it, or, where they are only counted, each at the front. Says how many bytes.
+    // `behind` stays a flag: the clauses differ by it, so that a closure for the place would need them told for each, and an enum is no plainer.
     fn put_runs(&self, out: &mut [u8], behind: bool) -> usize
         requires { needed behind (opcodes 0 (origins_of self.now)) ≤ length out.old }
         ensures value { result ≡ length (opcodes 0 (origins_of self.now)) }

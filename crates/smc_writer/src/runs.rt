@@ -16,6 +16,7 @@ pub struct RunLength {
     ghost most: { blocks ≤ max_run },
 }
 
+// `k_bound` is a clause of each method: a struct of it would be made anew for each block, where the same fact is due, so it is no plainer.
 impl Changes<'_> {
     // Whether a run of kept blocks, or one of changed blocks with these rows, that began at block k ends before block j.
     fn ends_at(&self, k: usize, rows: Rows, j: usize) -> bool
@@ -41,6 +42,7 @@ impl Changes<'_> {
         requires leads { leads_of self.now k (pixels rows) }
         ensures { result.blocks ≡ run_of self.now k }
     {
+        // a loop: with `(1..MAX_RUN).find(..)` the writer took up to 15 % longer on frames of which every block is changed
         for m in 1..MAX_RUN {
             if self.ends_at(k, rows, k + m) {
                 return RunLength { blocks: m };

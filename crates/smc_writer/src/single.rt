@@ -1,4 +1,4 @@
-// A changed block of more than one colour, which goes by itself. Each function writes at a place of the output and says how much.
+// A changed block of more than one colour, which goes by itself. Each writer of a block writes at the front of the output and says how much.
 ghost use Rattle.std.specs.Prelude.{◌≡◌, ◌∷◌, ◌+◌, ◌*◌, ◌^◌, ◌≤◌, length, take};
 ghost use Rattle.spec.specs.Writing.{colours, entries, tabled, single, onto};
 ghost use Rattle.smc_writer.specs.Tables.{bits};
@@ -25,11 +25,10 @@ fn put_tabled(out: &mut [u8], table: Table, list: &[u8; 16], px: &[u8; 16]) -> u
     ensures value { result ≡ length (tabled (bits table) (entries (bits table) (colours px.now)) px.now) }
     ensures out_after { out.new ≡ onto (tabled (bits table) (entries (bits table) (colours px.now)) px.now) out.old }
 {
-    let bits = table.bits();
     let entry = &list[..table.size()];
     let bytes = flags::flag_bytes(table, entry, px);
-    let flags = &bytes[..2 * bits];
-    out[0] = (16 * (6 + 2 * bits)) as u8;
+    let flags = &bytes[..2 * table.bits()];
+    out[0] = table.opcode();
     put_bytes(out, 1, entry);
     put_bytes(out, 1 + entry.len(), flags);
     1 + entry.len() + flags.len()

@@ -1,8 +1,8 @@
 // The kinds of table that the colours of a block may stand in, from the smallest on.
-ghost use Rattle.std.specs.Prelude.{◌≡◌, ◌^◌, ◌≤◌};
+ghost use Rattle.std.specs.Prelude.{◌≡◌, ◌+◌, ◌*◌, ◌^◌, ◌≤◌};
 ghost use Rattle.smc_writer.specs.Tables.{bits, table_for};
 
-// By how many colours an entry has.
+// By how many bits name a pixel's colour.
 #[derive(Clone, Copy)]
 pub enum Table {
     Pairs = 1,
@@ -41,6 +41,17 @@ impl Table {
             Table::Pairs => 2,
             Table::Quads => 4,
             Table::Octets => 8,
+        }
+    }
+
+    // The opcode of a block whose entry is stored with it.
+    pub fn opcode(self) -> u8
+        ensures { result ≡ 16 * (6 + 2 * bits self) }
+    {
+        match self {
+            Table::Pairs => 0x80,
+            Table::Quads => 0xA0,
+            Table::Octets => 0xC0,
         }
     }
 }

@@ -18,13 +18,13 @@ returns-clause-value c = let t = c.args.table in
       arith,
       length-tabled (bits t) es c.args.px.now,
       length-take-le c.size.result c.args.list.now (omega arith),
-      length-take-le (2 * c.bits-bits.result) c.flag_bytes-bytes.result (omega arith),
+      length-take-le (2 * c.bits.result) c.flag_bytes-bytes.result (omega arith),
     )
 
 pub returns-clause-out_after : goal.returns-clause-out_after
 returns-clause-out_after c = let t = c.args.table in
     let e = c.size.ensures.value in
     let es : take c.size.result c.args.list.now ≡ entries (bits t) (colours c.args.px.now) = rw e c.requires.stored in
-    table-put (bits t) _ c.args.px.now c.args.out.now c.bits-bits.ensures.value es (rw c.bits-bits.ensures.value c.flag_bytes-bytes.ensures)
-    (omega (arith, length-take-le c.size.result c.args.list.now (omega arith), length-take-le (2 * c.bits-bits.result) c.flag_bytes-bytes.result (omega arith)))
+    table-put (bits t) _ c.args.px.now c.args.out.now c.opcode.ensures es (rw c.bits.ensures.value c.flag_bytes-bytes.ensures)
+    (omega (arith, length-take-le c.size.result c.args.list.now (omega arith), length-take-le (2 * c.bits.result) c.flag_bytes-bytes.result (omega arith)))
     c.put_bytes.ensures.value c.put_bytes-2.ensures.value
