@@ -1,10 +1,9 @@
 -- Runs of blocks: they keep lengths, and have one block more. Assumes nothing.
-use Rattle.std.proofs.Common.{◌≡◌, ℕ, zero, suc, ◌+◌, ◌-◌, ◌*◌, ◌<◌, ◌≤◌, List, [], ◌∷◌, length, get_or, set, replicate, refl, ap, ◌∙◌, add-one, arith, length-set}
+use Rattle.std.proofs.Common.{◌≡◌, ℕ, zero, suc, ◌+◌, ◌-◌, ◌*◌, ◌<◌, ◌≤◌, List, length, get_or, set, refl, ap, ◌∙◌, add-one, arith, length-set}
 use Rattle.spec.specs.Pictures.{block_at, put_block}
 use Rattle.spec.specs.Maps.{settled}
 use Rattle.spec.proofs.Blocks.{length-put_pixels}
-use Rattle.blocks.specs.declared.Rows.{Rows}
-use Rattle.blocks.specs.Blocks.{row_of, pixels, Canvas}
+use Rattle.blocks.specs.Blocks.{Canvas}
 use Rattle.smc.specs.Runs.{put_each, mark_each}
 use Rattle.blocks.proofs.Rowwise.{on}
 

@@ -103,7 +103,7 @@ impl<'a, P: Packing> Run for ByFlags<'a, P> {
     }
 }
 
-// Puts a run from block k on, and settles its entries.
+// Puts a run from block k on, and settles its entries. By i, which is a place in the run and tells the block's number.
 pub fn put_run<R: Run>(run: &R, pic: &mut [u8], map: &mut [u16], grid: Grid, k: usize)
     requires exact { length pic.old ≡ area grid.columns grid.lines }
     requires map_len { length map.old ≡ grid.columns * grid.lines }

@@ -24,7 +24,6 @@ use Rattle.smc_check.specs.Tallying.{
   opened,
   bit,
   both,
-  is_settled,
   left,
   copied,
   touched,

@@ -41,7 +41,7 @@ pub struct Run<'t> {
 impl<'t, 'a> Here<'t, 'a> {
     ghost use Rattle.std.specs.Prelude.{◌+◌};
     ghost use Rattle.spec.specs.Chunks.{once, missing};
-    ghost use Rattle.smc_check.specs.Checking.{Stands, Ends, naming, fills_of, Tells, Refuses};
+    ghost use Rattle.smc_check.specs.Checking.{Stands, Ends, fills_of, Tells, Refuses};
 
     // The opcodes that name an entry, 9, B and D, a bit for each. Tried: with a flag in the row instead the check alone takes 11 % longer.
     const NAMING: usize = 1 << 9 | 1 << 11 | 1 << 13;

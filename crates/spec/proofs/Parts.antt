@@ -8,7 +8,7 @@ use native.Mathlib.Omega.{arith}
 use lib.ListN.{length, get_or, set, take, drop, length-drop, length-map, length-set}
 use borrow.Rule.Slice.PartMut.{put_mid}
 use Rattle.std.proofs.lemmas.List.Edits.{sets-eq}
-use lib.Seq.{sets, length-sets, drop-drop, take-suc, get_or-take, get_or-drop, get_or-set_same, get_or-set_other, length-take-le, take_at, drop_at, ext_get_or}
+use lib.Seq.{sets, length-sets, drop-drop, get_or-take, get_or-drop, get_or-set_same, get_or-set_other, length-take-le, take_at, drop_at, ext_get_or}
 use Rattle.spec.specs.Basics.{from, part}
 use Rattle.spec.proofs.Lists.{get_or-rule, length_from}
 
