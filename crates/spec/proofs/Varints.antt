@@ -8,11 +8,15 @@ use native.Mathlib.Omega.{arith}
 use lib.Dec.{leb}
 use lib.ListN.{length, get_or}
 use borrow.Author.Tests.{ltb-false, leb-false}
+use Rattle.std.specs.Prelude.{Result, Ok, Err}
+use Rattle.spec.specs.declared.Refusal.{Refusal}
+use Rattle.spec.specs.declared.Varint as Code
 use Rattle.spec.specs.Feeds.{Varint}
 use Rattle.spec.specs.Feeds.Varint.{Bad, Value}
 use Rattle.spec.specs.Answers.{ok, bad_varint, feed_cut}
-use Rattle.spec.specs.Feeds.{max_number, groups, varint_at, varint_says, SizeNumbers, failing, both, with_lines, with_columns, size_numbers}
+use Rattle.spec.specs.Feeds.{max_number, groups, varint_at, varint_says, varint_result, SizeNumbers, failing, both, with_lines, with_columns, size_numbers}
 use Rattle.spec.proofs.Lists.{by-test}
+use Rattle.spec.proofs.Refusals.{refusal-same}
 
 -- numbers that say the same are the same
 pub varint-same : (x y : Varint) → varint_says x ≡ varint_says y → x ≡ y
@@ -20,6 +24,14 @@ varint-same (Bad e) (Bad f) h = ap (λ (l : List ℕ). Bad (get_or l 0 0)) h
 varint-same (Bad e) (Value v p) h = absurd (omega (arith, ap length h))
 varint-same (Value v p) (Bad e) h = absurd (omega (arith, ap length h))
 varint-same (Value v p) (Value w q) h = ap (λ (l : List ℕ). Value (get_or l 1 0) (get_or l 2 0)) h
+
+-- and so are those of the code
+pub varint-result-same : (x y : Result Code.Varint Refusal) → varint_result x ≡ varint_result y → x ≡ y
+varint-result-same (Err why) (Err other) h = ap (λ (w : Refusal). Err w) (refusal-same why other (ap (λ (l : List ℕ). get_or l 0 0) h))
+varint-result-same (Err why) (Ok y) h = absurd (omega (arith, ap length h))
+varint-result-same (Ok x) (Err why) h = absurd (omega (arith, ap length h))
+varint-result-same (Ok x) (Ok y) h =
+    ap (λ (l : List ℕ). Ok (record { value = get_or l 1 0; after = get_or l 2 0 })) h
 
 -- what a reading at a place has found, by what it says
 pub found_number : (s : List ℕ) (at : ℕ) {x y : Varint} → varint_says x ≡ varint_says (varint_at s at) → x ≡ y → varint_at s at ≡ y
