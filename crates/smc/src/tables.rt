@@ -14,6 +14,11 @@ pub struct Table<const COLOURS: usize, const ALL: usize> {
 }
 
 impl<const COLOURS: usize, const ALL: usize> Table<COLOURS, ALL> {
+    // its entries, and the colours of each: 01's form has a table's type carry both
+    pub const CAPACITY: usize = CAPACITY;
+
+    pub const COLOURS: usize = COLOURS;
+
     // The table at the start of a chunk.
     pub fn emptied() -> Self
         requires { ALL ≡ COLOURS * capacity }

@@ -105,7 +105,8 @@ fn check_opcodes<A: Along>(blocks: usize, s: &[u8], mut along: A) -> Result<Used
 // The length that a chunk states.
 fn stated(s: &[u8]) -> usize
     requires { 4 ≤ length s.now }
-    ensures { result ≡ number 256 (part s.now 1 3) }
+    ensures value { result ≡ number 256 (part s.now 1 3) }
+    ensures upper_bound { result < 256 ^ 3 }
 {
     u32::from_be_bytes([0, s[1], s[2], s[3]]) as usize
 }

@@ -62,15 +62,18 @@ pub struct Row<'a> {
 
 impl<'a> Frame<'a> {
     // here, since specs/Held names `Frame`: at the top of the file, `Frame` would import itself
-    ghost use Rattle.std.specs.Prelude.{◌≡◌, IfOk};
+    ghost use Rattle.std.specs.Prelude.{◌≡◌, ◌+◌, IfOk};
     ghost use Rattle.spec.specs.Answers.{number_of};
-    ghost use Rattle.sprite.specs.Files.{frame_fault};
+    ghost use Rattle.sprite.specs.Files.{offset_of, height_at, width_at, frame_bytes, frame_fault};
     ghost use Rattle.sprite.specs.Frames.{frame};
     ghost use Rattle.sprite.specs.Held.{rows_of};
 
     // Frame k of a file; or 15, 16 or 17.
     pub fn find(s: &'a [u8], k: usize) -> Result<Self, Refusal>
         ensures number { number_of result ≡ frame_fault s.now k }
+        ensures height { IfOk result (λ f. f.height ≡ height_at s.now (offset_of s.now k)) }
+        ensures width { IfOk result (λ f. f.width ≡ width_at s.now (offset_of s.now k)) }
+        ensures first { IfOk result (λ f. f.first ≡ offset_of s.now k + frame_bytes) }
         ensures found { IfOk result (λ f. rows_of f ≡ frame s.now k) }
     {
         if !is_sprite(s) {

@@ -7,4 +7,4 @@ pub returns-then-s-lt4-clause-err : goal.returns-then-s-lt4-clause-err
 returns-then-s-lt4-clause-err c = λ n. refused-short n c.args.s.now (omega arith)
 
 pub returns-then-stated-s-clause-err : goal.returns-then-stated-s-clause-err
-returns-then-stated-s-clause-err c = λ n. refused-differs n c.args.s.now (omega arith) (λ e. c.if-stated-s.true (c.stated.ensures ∙ e))
+returns-then-stated-s-clause-err c = λ n. refused-differs n c.args.s.now (omega arith) (λ e. c.if-stated-s.true (c.stated.ensures.value ∙ e))

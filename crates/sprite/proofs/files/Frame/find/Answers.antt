@@ -57,6 +57,15 @@ returns-clause-number c =
       c.if-not-is_frame.false,
     )
 
+pub returns-clause-height : goal.returns-clause-height
+returns-clause-height c = rw (c.word.ensures, c.long-at.ensures)
+
+pub returns-clause-width : goal.returns-clause-width
+returns-clause-width c = rw (c.word-2.ensures, c.long-at.ensures)
+
+pub returns-clause-first : goal.returns-clause-first
+returns-clause-first c = rw c.long-at.ensures
+
 pub returns-clause-found : goal.returns-clause-found
 unfolding frame_fault if
 returns-clause-found c =
