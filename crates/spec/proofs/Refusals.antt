@@ -10,38 +10,15 @@ use Rattle.spec.specs.declared.Refusal.{Refusal}
 use Rattle.spec.specs.declared.Refusal.TheVariants as Why
 use Rattle.spec.specs.Answers.{ok, refusal_number, number_of}
 
-pub refused-not-ok : (why : Refusal) → refusal_number why ≢ ok
-refused-not-ok Why.BadSize e = omega (arith, e)
-refused-not-ok Why.BadLength e = omega (arith, e)
-refused-not-ok Why.ChunkShort e = omega (arith, e)
-refused-not-ok Why.LengthDiffers e = omega (arith, e)
-refused-not-ok Why.BlocksRemain e = omega (arith, e)
-refused-not-ok Why.OpcodeCut e = omega (arith, e)
-refused-not-ok Why.OpcodeUnknown e = omega (arith, e)
-refused-not-ok Why.NoneBefore e = omega (arith, e)
-refused-not-ok Why.PastLastBlock e = omega (arith, e)
-refused-not-ok Why.EntryEmpty e = omega (arith, e)
-refused-not-ok Why.BytesFollow e = omega (arith, e)
-refused-not-ok Why.BadVarint e = omega (arith, e)
-refused-not-ok Why.FeedCut e = omega (arith, e)
-refused-not-ok Why.OutputShort e = omega (arith, e)
-refused-not-ok Why.BadSprite e = omega (arith, e)
-refused-not-ok Why.NoSuchFrame e = omega (arith, e)
-refused-not-ok Why.BadFrame e = omega (arith, e)
-refused-not-ok Why.BadRow e = omega (arith, e)
-refused-not-ok Why.BadSegment e = omega (arith, e)
-refused-not-ok Why.NoEndMarker e = omega (arith, e)
-refused-not-ok Why.BadCount e = omega (arith, e)
-
 -- the refusals in the order of their numbers, from 1 on
-abbrev all : List Refusal
-all =
+abbrev in_order : List Refusal
+in_order =
     Why.BadSize ∷ Why.BadLength ∷ Why.ChunkShort ∷ Why.LengthDiffers ∷ Why.BlocksRemain ∷ Why.OpcodeCut ∷ Why.OpcodeUnknown
     ∷ Why.NoneBefore ∷ Why.PastLastBlock ∷ Why.EntryEmpty ∷ Why.BytesFollow ∷ Why.BadVarint ∷ Why.FeedCut ∷ Why.OutputShort
     ∷ Why.BadSprite ∷ Why.NoSuchFrame ∷ Why.BadFrame ∷ Why.BadRow ∷ Why.BadSegment ∷ Why.NoEndMarker ∷ Why.BadCount ∷ []
 
 abbrev refusal_of : ℕ → Refusal
-refusal_of number = get_or all (number - 1) Why.BadSize
+refusal_of number = get_or in_order (number - 1) Why.BadSize
 
 numbered-back : (why : Refusal) → refusal_of (refusal_number why) ≡ why
 numbered-back Why.BadSize = refl
@@ -65,6 +42,11 @@ numbered-back Why.BadRow = refl
 numbered-back Why.BadSegment = refl
 numbered-back Why.NoEndMarker = refl
 numbered-back Why.BadCount = refl
+
+pub refused-not-ok : (why : Refusal) → refusal_number why ≢ ok
+refused-not-ok why e =
+    let first : why ≡ Why.BadSize = sym (numbered-back why) ∙ ap refusal_of e in
+    omega (arith, e, ap refusal_number first)
 
 -- refusals of one number are the same
 pub refusal-same : (x y : Refusal) → refusal_number x ≡ refusal_number y → x ≡ y
